@@ -1,0 +1,5 @@
+use Rattle.kinds.proofs.Apart.{bits32-same}
+use Rattle.kinds.proofs.bits32_word.Bits32Group.difference.Needs as need
+
+pub returns : need.returns
+returns c = bits32-same _ _ (c .xor .ensures)
