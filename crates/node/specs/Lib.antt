@@ -1,0 +1,4 @@
+pub mod Nodes
+pub mod Faults
+pub mod Plans
+pub mod Stacks

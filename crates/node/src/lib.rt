@@ -1,0 +1,23 @@
+// Plans: the nodes of a pile of memories, the check that judges them, and the seal.
+//
+// A node is a macro of the chip or a layer over two memories. The nodes of a pile are those of its
+// first half, those of its second, and its own layer.
+mod faults;
+mod node;
+mod shape;
+mod stack;
+mod verdict;
+
+pub use faults::CheckFault;
+pub use faults::CheckFaultFault;
+pub use faults::NodeFault;
+pub use node::Layer;
+pub use node::Macro;
+pub use node::Node;
+pub use shape::Shape;
+pub use verdict::Top;
+pub use verdict::check;
+pub use verdict::macros;
+
+/// The largest number of nodes that a plan may have.
+pub const MAX_NODES: usize = 64;
