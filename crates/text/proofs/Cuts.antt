@@ -29,9 +29,11 @@ spelled-from xs i [] n h = drop-all i xs (omega arith)
 spelled-from xs i (y ∷ ys) n h =
     drop-more xs i 0 (omega arith) ∙ (λ j. h .0 j ∷ spelled-from xs (i + 1) ys (omega arith) (h .1) j)
 
+-- a list that reads as another is that list
 pub spelled : (xs ys : List ℕ) → length xs ≡ length ys → Reads-from xs 0 ys → xs ≡ ys
 spelled xs ys n h = spelled-from xs 0 ys (omega arith) h
 
+-- two bytes, and what follows
 pub two-rest : (xs : List ℕ) (a b : ℕ) → 2 ≤ length xs → getD xs 0 0 ≡ a → getD xs 1 0 ≡ b → xs ≡ a ∷ b ∷ between 2 (length xs) xs
 two-rest xs a b n e f =
     drop-more xs 0 0 (omega arith) ∙ (λ j. e j ∷ (drop-more xs 1 0 (omega arith) ∙ (λ k. f k ∷ sym (between-to-end xs 2 (length xs) (omega arith)) k)) j)
@@ -47,12 +49,19 @@ same-cut s (x ∷ f) (y ∷ g) r t e lf lg =
     let p = same-cut s f g r t e′ (λ k l q. lf (k + 1) (omega arith) (rw add-one q)) (λ k l q. lg (k + 1) (omega arith) (rw add-one q)) in
     ((λ j. h j ∷ p .0 j), p .1)
 
+-- and not where there is none
 pub no-cut : (s : ℕ) (bs f r : List ℕ) → bs ≡ f ++ (s ∷ r) → Lacks s bs → ⊥
 no-cut s bs f r e l = l (length f) (omega (arith, ap length e ∙ length-append f (s ∷ r))) (ap (λ xs. getD xs (length f) 0) e ∙ getD-at f s r 0 (length f) refl)
 
+-- a number holds no TAB
 pub no-tab : {f : List ℕ} → Canonical f → Lacks 9 f
 no-tab {f} c = not-in-digits own f 9 (c .digits) (λ h. omega arith)
 
+-- a number and a TAB are taken off in one way
+pub number-off : {bs f r g t : List ℕ} → bs ≡ f ++ (9 ∷ r) → Canonical f → bs ≡ g ++ (9 ∷ t) → Canonical g → (f ≡ g) × (r ≡ t)
+number-off p c q d = same-cut 9 _ _ _ _ (sym p ∙ q) (no-tab c) (no-tab d)
+
+-- no byte is the separator
 abbrev pub Free : ℕ → List ℕ → Type 0
 Free s bs = All (λ b. b ≡ s → ⊥) bs
 
@@ -60,6 +69,7 @@ abbrev free : ℕ → List ℕ → Bool
 free s [] = true
 free s (b ∷ bs) = not (eqb b s) && free s bs
 
+-- by a test that computes
 pub free-by-test : (s : ℕ) (bs : List ℕ) → free s bs ≡ true → Free s bs
 free-by-test s [] e = tt
 free-by-test s (b ∷ bs) e = let p = and-parts _ _ e in (eqb-false b s (not-true _ (p .0)), free-by-test s bs (p .1))

@@ -3,7 +3,11 @@ use mathlib.Core.Path.{_≡_, refl, sym, ap, subst, _∙_}
 use mathlib.Core.List.{List, [], _∷_, _++_}
 use Prim.Native.Nat.{ℕ, _+_, _-_, _*_, _^_, _≤_, _<_}
 use native.Mathlib.Omega.{arith}
+use mathlib.Core.Logic.{⊎-elim}
 use lib.ListN.{length, getD, take}
+use Rattle.std.specs.Written.{decimal}
+use Rattle.std.proofs.shelf.Decimals.{decimal-value, value-decimal, digits-decimal, decimal-some, length-decimal-le, first-decimal, decimal-digit}
+use Rattle.std.proofs.shelf.Tests.{cases-lt}
 use Rattle.std.specs.Reads.{Digits, value}
 use Rattle.std.specs.Text.{digitValue, In}
 use Rattle.std.proofs.shelf.Digits.{digits-more, value-more}
@@ -40,3 +44,20 @@ module _ {bs : List ℕ} {i n : ℕ} (s : Sofar bs i n) where
 
 pub not-digit : {bs : List ℕ} (i : ℕ) → i < length bs → (In 48 57 (getD bs i 0) → ⊥) → Canonical bs → ⊥
 not-digit {bs} i l not c = not (digit-at bs i (c .digits) l)
+
+-- what a number is written as
+pub canonical-decimal : (n : ℕ) → n < 2 ^ 64 → Canonical (decimal n)
+canonical-decimal n small = record {
+  digits = digits-decimal own n small;
+  some = decimal-some n small;
+  short = length-decimal-le 20 n (omega arith) (omega arith) small;
+  bare = λ e. ⊎-elim (λ one. ap length (decimal-digit n one)) (λ more. let f = first-decimal n (omega arith) small in absurd (omega arith)) (cases-lt n 10);
+}
+
+-- a field that has a number's value is what the number is written as
+pub written : {f : List ℕ} {v : ℕ} → Canonical f → v ≡ value 10 f → v < 2 ^ 64 → f ≡ decimal v
+written {f} c e small = sym (ap decimal e ∙ decimal-value own f (c .digits) (c .some) (c .bare) (subst (λ k. k < 2 ^ 64) e small))
+
+-- and what a number is written as has its value
+pub valued : {f : List ℕ} {v : ℕ} (n : ℕ) → v ≡ value 10 f → f ≡ decimal n → n < 2 ^ 64 → v ≡ n
+valued n e is small = e ∙ ap (value 10) is ∙ value-decimal own n small

@@ -12,8 +12,12 @@ abbrev pub line-text : LineBuffer → List ℕ
 line-text l = take (l .len) (l .bytes)
 
 -- as much as a line buffer keeps
-abbrev pub capped : List ℕ → List ℕ
+unfoldable pub capped : List ℕ → List ℕ
 capped bs = take 64 bs
+
+-- bs is added to a line that holds old, which then holds new
+pub record Adds (old bs new : List ℕ) : Type 0 where
+  pub is : new ≡ capped (old ++ bs)
 
 -- bs is written at `at` and ends at `end`, and nothing else changes
 pub record Put (old new : List ℕ) (at : ℕ) (bs : List ℕ) (end : ℕ) : Type 0 where

@@ -1,9 +1,8 @@
 // Lines that are written: made up in a small buffer of their own, then put into a lent one.
 ghost use mathlib.Core.Path.{_≡_};
-ghost use mathlib.Core.List.{[], _∷_, _++_};
+ghost use mathlib.Core.List.{[], _∷_};
 ghost use Rattle.std.specs.Written.{decimal};
-ghost use lib.ListN.{length};
-ghost use Rattle.text.specs.Lines.{line-text, capped, PutAt};
+ghost use Rattle.text.specs.Lines.{line-text, Adds, PutAt};
 
 /// The largest number of bytes that a line buffer holds. No format has a longer line.
 const LINE_BYTES: usize = 64;
@@ -28,7 +27,7 @@ impl LineBuffer {
 
     /// The line with one byte more.
     pub fn byte(mut self, byte: u8) -> LineBuffer
-        ensures { λ r. ⌜ line-text r ≡ capped (line-text self ++ (byte ∷ [])) ⌝ }
+        ensures { λ r. ⌜ Adds (line-text self) (byte ∷ []) (line-text r) ⌝ }
     {
         if self.len < LINE_BYTES {
             self.bytes[self.len] = byte;
@@ -39,7 +38,7 @@ impl LineBuffer {
 
     /// The line with a word more.
     pub fn word(self, word: &[u8]) -> LineBuffer
-        ensures { λ r. ⌜ line-text r ≡ capped (line-text self ++ now (word .entry)) ⌝ }
+        ensures { λ r. ⌜ Adds (line-text self) (now (word .entry)) (line-text r) ⌝ }
     {
         let mut line = self;
         for b in word {
@@ -50,7 +49,7 @@ impl LineBuffer {
 
     /// The line with the decimal digits of a number more.
     pub fn number(self, n: u64) -> LineBuffer
-        ensures { λ r. ⌜ line-text r ≡ capped (line-text self ++ decimal n) ⌝ }
+        ensures { λ r. ⌜ Adds (line-text self) (decimal n) (line-text r) ⌝ }
     {
         let last = b'0' + (n % 10) as u8;
         if n < 10 {

@@ -1,13 +1,11 @@
-use mathlib.Core.Path.{sym, ap, _∙_}
-use mathlib.Core.List.{List, _++_}
-use Prim.Native.Nat.{ℕ}
+use mathlib.Core.Path.{sym}
 use native.Mathlib.Omega.{arith}
-use Rattle.text.specs.Lines.{capped, line-text}
-use Rattle.text.proofs.Lines.{one-digit, digits-more}
+use Rattle.std.proofs.shelf.Decimals.{decimal-step}
+use Rattle.text.proofs.Lines.{one-digit, adds-then, adds-is}
 use Rattle.text.proofs.line.LineBuffer.+number.Needs as need
 
 pub returns-then-n-lt10 : need.returns-then-n-lt10
-returns-then-n-lt10 t c = c .byte .ensures ∙ ap (λ (ds : List ℕ). capped (line-text (c .args .self) ++ ds)) (sym (one-digit (c .args .n) (c .if-n-lt10 .taken)))
+returns-then-n-lt10 t c = adds-is (one-digit (c .args .n) (c .if-n-lt10 .taken)) (c .byte .ensures)
 
 pub returns-else-n-lt10 : need.returns-else-n-lt10
-returns-else-n-lt10 t c = digits-more (line-text (c .args .self)) (c .args .n) (c .if-n-lt10 .left) (omega arith) (c .number .ensures) (c .byte-else-n-lt10 .ensures)
+returns-else-n-lt10 t c = adds-is (sym (decimal-step (c .args .n) (c .if-n-lt10 .left) (omega arith))) (adds-then (c .number .ensures) (c .byte-else-n-lt10 .ensures))

@@ -1,8 +1,6 @@
-use mathlib.Core.Path.{_≡_}
-use mathlib.Core.List.{_++_}
 use lib.ListN.{take}
-use Rattle.text.specs.Lines.{line-text, capped}
+use Rattle.text.specs.Lines.{line-text, Adds}
 use Rattle.text.proofs.line.LineBuffer.word.Given as given
 
 abbrev pub Inv-loop-b : given.InvT-loop-b
-Inv-loop-b l = line-text (l .line) ≡ capped (line-text (l .entry .line) ++ take (l .b-index) (l .word))
+Inv-loop-b l = Adds (line-text (l .entry .line)) (take (l .b-index) (l .word)) (line-text (l .line))
