@@ -62,3 +62,7 @@ Checked ns (Err fault.NoNodes) = ns ≡ []
 Checked ns (Err fault.TooManyNodes) = 64 < length ns
 Checked ns (Err (fault.Node place f)) = (length ns ≤ 64) × FirstRefused ns place f
 Checked ns (Err (fault.ManyMemories place)) = (length ns ≤ 64) × (place ≡ length ns + 1) × ((st : List Shape) × Plans ns st × (1 < length st))
+
+-- no other answer to these nodes would do
+abbrev pub Sole : List Node → Result Top CheckFault → Type 0
+Sole ns r = (q : Result Top CheckFault) → Checked ns q → q ≡ r

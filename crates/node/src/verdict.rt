@@ -1,6 +1,6 @@
 // The check of a plan: through the nodes in order, with their places.
 ghost use mathlib.Core.Path.{_≡_};
-ghost use Rattle.node.specs.Plans.{Checked, macro-count};
+ghost use Rattle.node.specs.Plans.{Checked, Sole, macro-count};
 use crate::MAX_NODES;
 use crate::faults::CheckFault;
 use crate::node::Node;
@@ -29,7 +29,8 @@ pub fn macros(nodes: &[Node]) -> usize
 
 /// Whether the nodes are the plan of one memory: its shape and its number of macros, or the first fault.
 pub fn check(nodes: &[Node]) -> Result<Top, CheckFault>
-    ensures { λ r. ⌜ Checked (now (nodes .entry)) r ⌝ }
+    ensures says { λ r. ⌜ Checked (now (nodes .entry)) r ⌝ }
+    ensures sole { λ r. ⌜ Sole (now (nodes .entry)) r ⌝ }
 {
     if nodes.is_empty() {
         return Err(CheckFault::NoNodes);

@@ -5,14 +5,22 @@ use native.Mathlib.Omega.{arith}
 use borrow.Author.Needs.{needs}
 use lib.ListN.{length, getD, take, drop}
 use Rattle.std.proofs.shelf.Lists.{nil-from-length, length-take-le, take-more, take-all}
+use Rattle.std.specs.declared.result.Result.{Result}
+use Rattle.node.specs.declared.faults.CheckFault.{CheckFault}
 use Rattle.node.specs.declared.node.Node.{Node}
-use Rattle.node.specs.Plans.{Plans, none}
+use Rattle.node.specs.declared.verdict.Top.{Top}
+use Rattle.node.specs.Plans.{Plans, none, Checked, Sole}
 use Rattle.node.specs.Stacks.{held}
+use Rattle.node.proofs.Sole.{checked-sole}
 use Rattle.node.proofs.Stacking.{plans-more, split-at, one-left, held-length}
 use Rattle.node.proofs.verdict.check.Needs as need
 
+-- an answer that would do is the only one
+only : (ns : List Node) (r : Result Top CheckFault) → Checked ns r → record { says : Checked ns r; sole : Sole ns r }
+only ns r says = record { says = says; sole = checked-sole ns r says }
+
 pub returns-then-is-empty : need.returns-then-is-empty
-returns-then-is-empty c = nil-from-length (c .args .nodes .now) (search needs)
+returns-then-is-empty c = only _ _ (nil-from-length (c .args .nodes .now) (search needs))
 
 pub loop-i-holds : need.loop-i-holds
 loop-i-holds c = (subst (Plans _) (sym (c .new-stack .ensures .0)) none, omega (arith, c .new-stack .ensures .1), search needs)
@@ -20,7 +28,8 @@ loop-i-holds c = (subst (Plans _) (sym (c .new-stack .ensures .0)) none, omega (
 pub returns-in-Err : need.returns-in-Err
 returns-in-Err c =
     let ns = c .args .nodes .now in
-    let i = c .loop-i .i in (
+    let i = c .loop-i .i in
+    only _ _ (
       search needs,
       record {
         before = take i ns;
@@ -45,7 +54,8 @@ loop-i-again c =
 
 pub returns-then-stack-gt1 : need.returns-then-stack-gt1
 returns-then-stack-gt1 c =
-    let st = c .loop-i .stack in (
+    let st = c .loop-i .stack in
+    only _ _ (
       search needs,
       refl,
       (
@@ -59,4 +69,4 @@ pub returns : need.returns
 returns c =
     let st = c .loop-i .stack in
     let all = subst (λ (qs : List Node). Plans qs (held st)) (take-all (c .loop-i .i) (c .args .nodes .now) (c .loop-i-test .left)) (c .loop-i .inv .0) in
-    ((search needs, one-left (st .shapes) (st .count) _ all (search needs) (c .if-stack-gt1 .left) (omega (arith, c .loop-i .inv .2))), c .macros .ensures)
+    only _ _ ((search needs, one-left (st .shapes) (st .count) _ all (search needs) (c .if-stack-gt1 .left) (omega (arith, c .loop-i .inv .2))), c .macros .ensures)

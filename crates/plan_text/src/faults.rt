@@ -1,0 +1,68 @@
+// Why a plan text is not read or not written.
+ghost use Rattle.plan_text.specs.Faults.{read-fault, write-fault};
+use node::CheckFault;
+use node::CheckFaultFault;
+use text::Fault;
+use text::LineFault;
+use text::Report;
+
+/// Why a plan text is not read.
+#[derive(Clone, Copy)]
+pub enum ReadFault {
+    /// The text is longer than a text may be.
+    TooLong,
+    /// This line, from 1, is refused by itself.
+    Line { line: usize, fault: LineFault },
+    /// This line would be the 65th node.
+    TooManyNodes { line: usize },
+    /// The node buffer has no place for the node of this line.
+    NoPlace { line: usize },
+}
+
+/// Why the text of nodes is not written.
+#[derive(Clone, Copy)]
+pub enum WriteFault {
+    /// The nodes do not pass the check.
+    Check(CheckFault),
+    /// The buffer is too short for the text.
+    NoRoom,
+}
+
+pub impl Fault for ReadFault as ReadFaultFault {
+    ghost told = { read-fault };
+
+    fn report(&self) -> Report {
+        match self {
+            ReadFault::TooLong => Report {
+                number: 16,
+                place: 0,
+            },
+            ReadFault::Line { line, fault } => Report {
+                number: fault.number(),
+                place: *line,
+            },
+            ReadFault::TooManyNodes { line } => Report {
+                number: 8,
+                place: *line,
+            },
+            ReadFault::NoPlace { line } => Report {
+                number: 14,
+                place: *line,
+            },
+        }
+    }
+}
+
+pub impl Fault for WriteFault as WriteFaultFault {
+    ghost told = { write-fault };
+
+    fn report(&self) -> Report {
+        match self {
+            WriteFault::Check(fault) => fault.report(),
+            WriteFault::NoRoom => Report {
+                number: 14,
+                place: 0,
+            },
+        }
+    }
+}
