@@ -53,5 +53,13 @@ text-append (n ∷ ns) ms = ap (λ t. (line-of n ++ (10 ∷ [])) ++ t) (text-app
 pub text-front : (ns : List Node) (i : ℕ) → length (text-of (take i ns)) ≤ length (text-of ns)
 text-front ns i = omega (arith, ap (λ xs. length (text-of xs)) (take-append-drop i ns), ap length (text-append (take i ns) (drop i ns)), length-append (text-of (take i ns)) (text-of (drop i ns)))
 
-pub text-length-more : (ns : List Node) (i : ℕ) (d : Node) → i < length ns → length (text-of (take (i + 1) ns)) ≡ length (text-of (take i ns)) + (length (line-of (getD ns i d)) + 1)
-text-length-more ns i d l = ap length (text-more ns i d l) ∙ length-append (text-of (take i ns)) (line-of (getD ns i d) ++ (10 ∷ [])) ∙ ap (λ k. length (text-of (take i ns)) + k) (length-push (line-of (getD ns i d)) 10)
+-- the text of the first nodes with the next line
+pub line-more : (ns : List Node) (i : ℕ) (d : Node) {line : List ℕ} → i < length ns → line ≡ line-of (getD ns i d) ++ (10 ∷ []) → text-of (take i ns) ++ line ≡ text-of (take (i + 1) ns)
+line-more ns i d here e = ap (λ (bs : List ℕ). text-of (take i ns) ++ bs) e ∙ sym (text-more ns i d here)
+
+-- and its length, which is not that of more than all
+pub line-fits : (ns : List Node) (i : ℕ) (d : Node) {line : List ℕ} → i < length ns → line ≡ line-of (getD ns i d) ++ (10 ∷ []) → (length (text-of (take i ns)) + length line ≡ length (text-of (take (i + 1) ns))) × (length (text-of (take i ns)) + length line ≤ length (text-of ns))
+line-fits ns i d {line} here e =
+    let whole = ap length (line-more ns i d here e) in
+    let parts = length-append (text-of (take i ns)) line in
+    (omega arith, omega (arith, text-front ns (i + 1)))
