@@ -1,0 +1,38 @@
+-- What sealing a draft gives.
+use mathlib.Core.Path.{_≡_}
+use mathlib.Core.List.{List, []}
+use Prim.Native.Nat.{ℕ}
+use Rattle.std.specs.declared.option.Option.{Option}
+use Rattle.std.specs.declared.option.Option.the-variants.{Some, None}
+use Rattle.word.specs.declared.Letter.{Letter}
+use Rattle.node.specs.declared.node.Node.{Node}
+use Rattle.node.specs.declared.shape.Shape.{Shape}
+use Rattle.node.specs.declared.verdict.Top.{Top}
+use Rattle.node.specs.Plans.{Passes, macro-count}
+
+-- nodes that pass keep their place and have a top; others give the empty plan, with no nodes and no top
+abbrev pub Seals : List Node → List Node → Option Top → Type 0
+Seals ns kept (Some t) = (kept ≡ ns) × Passes ns (t .shape) × (t .macros ≡ macro-count ns)
+Seals ns kept None = (kept ≡ []) × ((s : Shape) → Passes ns s → ⊥)
+
+-- the top's letter; the empty plan has none
+abbrev pub top-letter : Option Top → Option Letter
+top-letter (Some t) = Some (t .shape .letter)
+top-letter None = None
+
+-- the top's numbers; the empty plan has 0 for each
+abbrev pub top-reads : Option Top → ℕ
+top-reads (Some t) = t .shape .reads
+top-reads None = 0
+
+abbrev pub top-writes : Option Top → ℕ
+top-writes (Some t) = t .shape .writes
+top-writes None = 0
+
+abbrev pub top-depth : Option Top → ℕ
+top-depth (Some t) = t .shape .depth
+top-depth None = 0
+
+abbrev pub top-macros : Option Top → ℕ
+top-macros (Some t) = t .macros
+top-macros None = 0
