@@ -16,7 +16,7 @@ use Rattle.node.specs.declared.node.Node.{Node}
 use Rattle.node.specs.declared.node.Node.the-variants.{Macro as macro-node, Layer as layer-node}
 use Rattle.node.specs.declared.shape.Shape.{Shape}
 use Rattle.node.specs.Nodes.{InRange, Fits}
-use Rattle.node.specs.Plans.{Plan, single, layered, Plans, none, then, NodeRefused, macro-count, Checked, Sole}
+use Rattle.node.specs.Plans.{Plan, single, layered, Plans, none, then, NodeRefused, FirstRefused, macro-count, Checked, Sole}
 use Rattle.node.specs.Stacks.{Taken}
 
 -- where the way through the nodes ends: after the last one, with the shapes of the memories, or at a
@@ -80,6 +80,15 @@ plan-ends st (layered l {a = a} {b = b} first second fit) rest =
 plans-end : {ns after : List Node} {st : List Shape} {o : Outcome} → Plans ns st → Ends st after o → Ends [] (ns ++ after) o
 plans-end none rest = rest
 plans-end (then {st = st} before plan) rest = rw append-assoc (plans-end before (plan-ends st plan rest))
+
+-- to go through is not to stop
+gone-or-stopped : (st : List Shape) (left : ℕ) (f : NodeFault) → gone st ≡ stopped left f → ⊥
+gone-or-stopped st left f e = let clash : _≡_ {A = ℕ} 0 1 = cc in omega arith
+
+-- nodes of which one is refused are no memories' nodes
+pub refused-none : {ns : List Node} {place : ℕ} {f : NodeFault} {st : List Shape} → FirstRefused ns place f → Plans ns st → ⊥
+refused-none {f = f} {st = st} first plans =
+    gone-or-stopped st (length (first .after)) f (ends-sole (rw append-nil at (plans-end plans all)) (rw (first .split) (plans-end (first .taken) (stops (first .refused)))))
 
 -- the answer to at most 64 nodes, by where the way through them ends
 answer : List Node → Outcome → Result Top CheckFault

@@ -68,6 +68,21 @@ one-left {ns} xs (suc n) d plans some few room =
     let e : suc n ≡ 0 + 1 = omega arith in
     plan-of-one (subst (Plans ns) (ap (λ (k : ℕ). reverse (take k xs)) e ∙ top-is xs 0 d (omega arith)) plans)
 
+-- nodes leave a memory
+pub some-held : {ns : List Node} (xs : List Shape) (n : ℕ) → Plans ns (reverse (take n xs)) → 0 < length ns → 1 ≤ n
+some-held xs zero plans some = absurd (omega (arith, ap length (plans-of-none plans)))
+some-held xs (suc n) plans some = omega arith
+
+-- the memory on top
+pub top-held : {ns : List Node} (xs : List Shape) (n : ℕ) (d : Shape) → Plans ns (reverse (take n xs)) → 1 ≤ n → n ≤ length xs → Plans ns (getD xs (n - 1) d ∷ reverse (take (n - 1) xs))
+top-held {ns} xs n d plans some room =
+    let e : n ≡ (n - 1) + 1 = omega arith in
+    subst (Plans ns) (ap (λ (k : ℕ). reverse (take k xs)) e ∙ top-is xs (n - 1) d (omega arith)) plans
+
+-- a front, as a part of a slice
+pub part-front : (k : ℕ) (ns : List Node) → take (k - 0) ns ≡ take k ns
+part-front k ns = let e : k - 0 ≡ k = omega arith in ap (λ (j : ℕ). take j ns) e
+
 -- the node at a place, between those before it and those after
 pub split-at : (ns : List Node) (i : ℕ) (d : Node) → i < length ns → ns ≡ take i ns ++ (getD ns i d ∷ drop (i + 1) ns)
 split-at ns i d here = sym (take-append-drop i ns) ∙ ap (λ (qs : List Node). take i ns ++ qs) (drop-more ns i d here)

@@ -3,7 +3,9 @@ use mathlib.Core.Path.{_≡_}
 use mathlib.Core.Bool.{cond}
 use mathlib.Core.List.{List, [], _∷_, _++_}
 use Prim.Native.Nat.{ℕ, _+_, _≤_, _<_}
-use lib.ListN.{length}
+use lib.ListN.{length, take}
+use Rattle.std.specs.declared.option.Option.{Option}
+use Rattle.std.specs.declared.option.Option.the-variants.{Some, None}
 use Rattle.std.specs.declared.result.Result.{Result}
 use Rattle.std.specs.declared.result.Result.the-variants.{Ok, Err}
 use Rattle.node.specs.declared.verdict.Top.{Top}
@@ -66,3 +68,8 @@ Checked ns (Err (fault.ManyMemories place)) = (length ns ≤ 64) × (place ≡ l
 -- no other answer to these nodes would do
 abbrev pub Sole : List Node → Result Top CheckFault → Type 0
 Sole ns r = (q : Result Top CheckFault) → Checked ns q → q ≡ r
+
+-- the shape of the memory that ends with a node, counted from 0, or none
+abbrev pub ShapeAt : List Node → ℕ → Option Shape → Type 0
+ShapeAt ns last (Some s) = (last < length ns) × (last < 64) × ((st : List Shape) × Plans (take (last + 1) ns) (s ∷ st))
+ShapeAt ns last None = last < length ns → last < 64 → (st : List Shape) → Plans (take (last + 1) ns) st → ⊥

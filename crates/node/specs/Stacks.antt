@@ -6,12 +6,14 @@ use lib.ListN.{length, set, take}
 use Rattle.std.specs.declared.result.Result.{Result}
 use Rattle.std.specs.declared.result.Result.the-variants.{Ok, Err}
 use Rattle.node.specs.declared.stack.Stack.{Stack}
+use Rattle.node.specs.declared.faults.CheckFault.{CheckFault}
+use Rattle.node.specs.declared.faults.CheckFault.the-variants as fault
 use Rattle.node.specs.declared.faults.NodeFault.{NodeFault}
 use Rattle.node.specs.declared.node.Node.{Node}
 use Rattle.node.specs.declared.node.Node.the-variants.{Macro as macro-node, Layer as layer-node}
 use Rattle.node.specs.declared.shape.Shape.{Shape}
 use Rattle.node.specs.Nodes.{InRange, Fits, shape-of, over}
-use Rattle.node.specs.Plans.{NodeRefused}
+use Rattle.node.specs.Plans.{Plans, NodeRefused, FirstRefused}
 
 -- the shapes on a stack, the top first
 abbrev pub held : Stack → List Shape
@@ -30,3 +32,8 @@ Taken st (layer-node l) st′ = (a : Shape) × (b : Shape) × (rest : List Shape
 abbrev pub Added : Stack → Node → Result Stack NodeFault → Type 0
 Added old n (Ok new) = Taken (held old) n (held new) × (new .count ≤ old .count + 1) × (length (new .shapes) ≡ length (old .shapes))
 Added old n (Err f) = NodeRefused (held old) n f
+
+-- the stack that nodes leave, which counts no more than they are, or the first that is refused
+abbrev pub Stacked : List Node → Result Stack CheckFault → Type 0
+Stacked ns (Ok stack) = Plans ns (held stack) × (stack .count ≤ length ns) × (length (stack .shapes) ≡ 64)
+Stacked ns (Err f) = (place : ℕ) × (why : NodeFault) × (f ≡ fault.Node place why) × FirstRefused ns place why

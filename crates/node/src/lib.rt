@@ -18,6 +18,7 @@ pub use shape::Shape;
 pub use verdict::Top;
 pub use verdict::check;
 pub use verdict::macros;
+pub use verdict::shape_at;
 
 /// The largest number of nodes that a plan may have.
 pub const MAX_NODES: usize = 64;

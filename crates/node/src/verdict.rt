@@ -1,6 +1,9 @@
 // The check of a plan: through the nodes in order, with their places.
 ghost use mathlib.Core.Path.{_≡_};
-ghost use Rattle.node.specs.Plans.{Checked, Sole, macro-count};
+ghost use Prim.Native.Nat.{_≤_};
+ghost use lib.ListN.{length};
+ghost use Rattle.node.specs.Plans.{Checked, ShapeAt, Sole, macro-count};
+ghost use Rattle.node.specs.Stacks.{Stacked};
 use crate::MAX_NODES;
 use crate::faults::CheckFault;
 use crate::node::Node;
@@ -27,6 +30,26 @@ pub fn macros(nodes: &[Node]) -> usize
     count
 }
 
+// The memories that the nodes leave, or the first node that is refused.
+fn stacked(nodes: &[Node]) -> Result<Stack, CheckFault>
+    requires { ⌜ length (now nodes) ≤ 64 ⌝ }
+    ensures { λ r. ⌜ Stacked (now (nodes .entry)) r ⌝ }
+{
+    let mut stack = Stack::new();
+    for (i, node) in nodes.iter().enumerate() {
+        match stack.add(*node) {
+            Ok(next) => stack = next,
+            Err(fault) => {
+                return Err(CheckFault::Node {
+                    place: i + 1,
+                    fault,
+                });
+            }
+        }
+    }
+    Ok(stack)
+}
+
 /// Whether the nodes are the plan of one memory: its shape and its number of macros, or the first fault.
 pub fn check(nodes: &[Node]) -> Result<Top, CheckFault>
     ensures says { λ r. ⌜ Checked (now (nodes .entry)) r ⌝ }
@@ -38,16 +61,10 @@ pub fn check(nodes: &[Node]) -> Result<Top, CheckFault>
     if nodes.len() > MAX_NODES {
         return Err(CheckFault::TooManyNodes);
     }
-    let mut stack = Stack::new();
-    for (i, node) in nodes.iter().enumerate() {
-        match stack.add(*node) {
-            Ok(next) => stack = next,
-            Err(fault) => return Err(CheckFault::Node {
-                place: i + 1,
-                fault,
-            }),
-        }
-    }
+    let stack = match stacked(nodes) {
+        Ok(stack) => stack,
+        Err(fault) => return Err(fault),
+    };
     if stack.count > 1 {
         return Err(CheckFault::ManyMemories {
             place: nodes.len() + 1,
@@ -57,4 +74,18 @@ pub fn check(nodes: &[Node]) -> Result<Top, CheckFault>
         shape: stack.shapes[0],
         macros: macros(nodes),
     })
+}
+
+/// The shape of the memory that ends with the node `last`, counted from 0; none where there is no
+/// such node, or where it is past the 64th, or where it or one before it is refused.
+pub fn shape_at(nodes: &[Node], last: usize) -> Option<Shape>
+    ensures { λ r. ⌜ ShapeAt (now (nodes .entry)) last r ⌝ }
+{
+    if last >= nodes.len() || last >= MAX_NODES {
+        return None;
+    }
+    match stacked(&nodes[0..last + 1]) {
+        Ok(stack) => Some(stack.shapes[stack.count - 1]),
+        Err(_) => None,
+    }
 }

@@ -1,9 +1,11 @@
 // Sealing, and what a sealed plan tells.
 ghost use mathlib.Core.Path.{_≡_};
+ghost use Rattle.node.specs.Plans.{ShapeAt};
 ghost use Rattle.seal.specs.Sealing.{Seals, top-letter, top-reads, top-writes, top-depth, top-macros};
 use crate::plan::Draft;
 use crate::plan::Sealed;
 use node::Node;
+use node::Shape;
 use node::check;
 use word::Letter;
 
@@ -89,5 +91,11 @@ impl<'a> Sealed<'a> {
             Some(top) => top.macros,
             None => 0,
         }
+    }
+    /// The shape of the memory that ends with the node `last`, counted from 0, or none.
+    pub fn shape_at(&self, last: usize) -> Option<Shape>
+        ensures { λ r. ⌜ ShapeAt (now (now (self .entry) .nodes)) last r ⌝ }
+    {
+        node::shape_at(self.nodes, last)
     }
 }
