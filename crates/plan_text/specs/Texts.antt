@@ -55,3 +55,7 @@ TextRead text old new (Ok count) = (length text ≤ max-bytes) × ((ns : List No
 TextRead text old new (Err f) =
     ((max-bytes < length text) × (new ≡ old) × (f ≡ reading.TooLong))
     ⊎ ((length text ≤ max-bytes) × ((ns : List Node) × (rest : List ℕ) × Front text old new ns rest × Stops (length old) ns rest f))
+
+-- no other answer to this text and this buffer would do
+abbrev pub ReadSole : List ℕ → List Node → List Node → Result ℕ ReadFault → Type 0
+ReadSole text old new r = (new′ : List Node) (r′ : Result ℕ ReadFault) → TextRead text old new′ r′ → (new′ ≡ new) × (r′ ≡ r)

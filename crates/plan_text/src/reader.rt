@@ -1,5 +1,5 @@
 // The reader of a plan text.
-ghost use Rattle.plan_text.specs.Texts.{TextRead};
+ghost use Rattle.plan_text.specs.Texts.{TextRead, ReadSole};
 use crate::faults::ReadFault;
 use node::MAX_NODES;
 use node::Node;
@@ -11,7 +11,8 @@ use text::cut;
 /// Reads the nodes of a text into the front of `nodes`, and says how many there are. On a fault the
 /// places that are filled remain; past them the buffer is as it was.
 pub fn read(text: &[u8], nodes: &mut [Node]) -> Result<usize, ReadFault>
-    ensures { λ r. ⌜ TextRead (now (text .entry)) (now (nodes .entry)) (now (nodes .exit)) r ⌝ }
+    ensures says { λ r. ⌜ TextRead (now (text .entry)) (now (nodes .entry)) (now (nodes .exit)) r ⌝ }
+    ensures sole { λ r. ⌜ ReadSole (now (text .entry)) (now (nodes .entry)) (now (nodes .exit)) r ⌝ }
 {
     if text.len() > MAX_BYTES {
         return Err(ReadFault::TooLong);

@@ -1,0 +1,133 @@
+// A tour of the composer: a design from its plan text to its sealed plan, step by step.
+//
+// It reads plan.txt in the current folder.
+use node::CheckFaultFault;
+use node::Layer;
+use node::MAX_NODES;
+use node::Node;
+use node::check;
+use node_line::render;
+use plan_text::ReadFaultFault;
+use plan_text::WriteFaultFault;
+use plan_text::read;
+use plan_text::write;
+use seal::Draft;
+use seal::Sealed;
+use std::error::AnyError;
+use std::fs;
+use text::Fault;
+use text::MAX_BYTES;
+use word::LetterDebug;
+
+const FILE: &str = "plan.txt";
+
+// A text with a number that begins with 0.
+const DAMAGED: &[u8] = b"macro\t1\tH\t1\t1\t64\nmacro\t1\tH\t1\t1\t064\nwidth\n";
+
+// Orders have no sum, so no exclusive-or layer stands over them.
+const REFUSED: &[u8] = b"macro\t1\tO\t2\t1\t64\nmacro\t1\tO\t2\t1\t64\nxor\n";
+
+fn show_fault<F: Fault>(rt: &LibcRuntime, what: &str, fault: &F) -> Result<(), AnyError> {
+    let report = fault.report();
+    let number = report.number;
+    let place = report.place;
+    println!(rt, "{what}: fault {number} at {place}")?;
+    Ok(())
+}
+
+// A node's line without its end, as text.
+fn show_node(rt: &LibcRuntime, i: usize, node: &Node) -> Result<(), AnyError> {
+    let line = render(node);
+    let text = std::str::from_utf8(line.as_bytes())?;
+    print!(rt, "node {i}: {text}")?;
+    Ok(())
+}
+
+fn show_shape(rt: &LibcRuntime, plan: &Sealed, i: usize) -> Result<(), AnyError> {
+    if let Some(shape) = plan.shape_at(i) {
+        let letter = shape.letter;
+        let reads = shape.reads;
+        let writes = shape.writes;
+        let depth = shape.depth;
+        println!(
+            rt,
+            "    makes {letter:?}, {reads} reads, {writes} writes, {depth} deep"
+        )?;
+    }
+    Ok(())
+}
+
+// Takes a sealed plan over and shows what it holds.
+fn show_plan(rt: &LibcRuntime, plan: Sealed) -> Result<(), AnyError> {
+    let nodes = plan.nodes();
+    for (i, node) in nodes.iter().enumerate() {
+        show_node(rt, i, node)?;
+        show_shape(rt, &plan, i)?;
+    }
+    let count = nodes.len();
+    let reads = plan.reads();
+    let writes = plan.writes();
+    let depth = plan.depth();
+    let macros = plan.macros();
+    println!(
+        rt,
+        "sealed: {count} nodes, {reads} reads, {writes} writes, {depth} deep, {macros} macros"
+    )?;
+    Ok(())
+}
+
+// What the check says of the nodes.
+fn show_check(rt: &LibcRuntime, nodes: &[Node]) -> Result<(), AnyError> {
+    match check(nodes) {
+        Ok(top) => {
+            let letter = top.shape.letter;
+            println!(rt, "check: passes, letter {letter:?}")?;
+            Ok(())
+        }
+        Err(fault) => show_fault(rt, "check", &fault),
+    }
+}
+
+// The text of the nodes again, and whether it is the one that was read.
+fn show_text(rt: &LibcRuntime, nodes: &[Node], text: &[u8]) -> Result<(), AnyError> {
+    let mut out = vec![in rt.alloc(); 0u8; MAX_BYTES]?;
+    match write(nodes, &mut out) {
+        Ok(n) => {
+            let same = out.as_slice().starts_with(text) && n == text.len();
+            let verdict = if same { "the same" } else { "another" };
+            println!(rt, "written back: {n} bytes, {verdict}")?;
+            Ok(())
+        }
+        Err(fault) => show_fault(rt, "write", &fault),
+    }
+}
+
+// A design from its text to its sealed plan.
+fn show_design(rt: &LibcRuntime, name: &str, text: &[u8]) -> Result<(), AnyError> {
+    let mut nodes = [Node::Layer(Layer::Lvt); MAX_NODES];
+    let size = text.len();
+    println!(rt, "{name}: {size} bytes")?;
+    let count = match read(text, &mut nodes) {
+        Ok(count) => count,
+        Err(fault) => return show_fault(rt, "read", &fault),
+    };
+    println!(rt, "read: {count} nodes")?;
+    let nodes = &nodes[0..count];
+    show_check(rt, nodes)?;
+    show_text(rt, nodes, text)?;
+    let draft = Draft::new(nodes);
+    show_plan(rt, draft.seal())
+}
+
+fn tour(rt: &LibcRuntime) -> Result<(), AnyError> {
+    let Ok(text) = fs::read(rt, FILE) else {
+        return Err("cannot read plan.txt".into());
+    };
+    show_design(rt, FILE, text.as_slice())?;
+    show_design(rt, "a damaged text", DAMAGED)?;
+    show_design(rt, "a plan that is refused", REFUSED)
+}
+
+fn main(rt: LibcRuntime) -> Result<(), AnyError> {
+    rt.report(tour(&rt))
+}
