@@ -1,5 +1,5 @@
 -- A node's line as it is made up, part by part.
-use mathlib.Core.Path.{_≡_, ap, _∙_}
+use mathlib.Core.Path.{_≡_, refl, ap, _∙_}
 use mathlib.Core.List.{List, [], _∷_, _++_, append-assoc}
 use Prim.Native.Nat.{ℕ, _+_, _^_, _≤_, _<_}
 use native.Mathlib.Omega.{arith}
@@ -11,8 +11,9 @@ use Rattle.std.proofs.shelf.Decimals.{length-decimal-le}
 use Rattle.node.specs.declared.node.Layer.{Layer}
 use Rattle.node.specs.declared.node.Layer.the-variants.{Replicate, Lvt, Xor, Depth, Width}
 use Rattle.node.specs.declared.node.Macro.{Macro}
+use Rattle.node.specs.declared.node.Node.{Node}
 use Rattle.node.specs.declared.node.Node.the-variants as node
-use Rattle.node_line.specs.Lines.{line-of, letter-byte, layer-name}
+use Rattle.node_line.specs.Lines.{line-of, letter-byte, layer-name, NodeInRange}
 
 -- numbers of a macro, as its type bounds them
 pub record Narrow (m : Macro) : Type 0 where
@@ -50,3 +51,10 @@ layer-short Lvt = lit≤ tt
 layer-short Xor = lit≤ tt
 layer-short Depth = lit≤ tt
 layer-short Width = lit≤ tt
+
+-- and for the line of every node in range
+pub line-short : (n : Node) → NodeInRange n → length (line-of n ++ (10 ∷ [])) ≤ 64
+line-short (node.Macro m) h =
+    let narrow : Narrow m = record { kind = omega (arith, h .kind-high); reads = omega (arith, h .reads-high); writes = omega (arith, h .writes-high); depth = omega (arith, h .depth-high) } in
+    omega (arith, macro-parts-short m (letter-byte (m .letter)) narrow, ap length (macro-parts-are m (letter-byte (m .letter)) refl))
+line-short (node.Layer l) h = layer-short l

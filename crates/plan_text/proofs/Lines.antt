@@ -46,7 +46,7 @@ text-more ns i d l = ap text-of (take-more ns i d l) ∙ sym (joined-more (λ m.
 pub text-all : (ns : List Node) (i : ℕ) → length ns ≤ i → text-of (take i ns) ≡ text-of ns
 text-all ns i l = ap text-of (take-all i ns l)
 
-text-append : (ns ms : List Node) → text-of (ns ++ ms) ≡ text-of ns ++ text-of ms
+pub text-append : (ns ms : List Node) → text-of (ns ++ ms) ≡ text-of ns ++ text-of ms
 text-append [] ms = refl
 text-append (n ∷ ns) ms = ap (λ t. (line-of n ++ (10 ∷ [])) ++ t) (text-append ns ms) ∙ sym (append-assoc (line-of n ++ (10 ∷ [])) (text-of ns) (text-of ms))
 

@@ -1,5 +1,5 @@
 // Why a plan text is not read or not written.
-ghost use Rattle.plan_text.specs.Faults.{read-fault, write-fault};
+ghost use Rattle.plan_text.specs.Faults.{read-fault, trip-fault, write-fault};
 use node::CheckFault;
 use node::CheckFaultFault;
 use text::Fault;
@@ -26,6 +26,15 @@ pub enum WriteFault {
     Check(CheckFault),
     /// The buffer is too short for the text.
     NoRoom,
+}
+
+/// Why a trip from text to nodes and back, or from nodes to text and back, ends on the way.
+#[derive(Clone, Copy)]
+pub enum TripFault {
+    /// The text is not read.
+    Read(ReadFault),
+    /// The nodes are not written.
+    Write(WriteFault),
 }
 
 pub impl Fault for ReadFault as ReadFaultFault {
@@ -63,6 +72,17 @@ pub impl Fault for WriteFault as WriteFaultFault {
                 number: 14,
                 place: 0,
             },
+        }
+    }
+}
+
+pub impl Fault for TripFault as TripFaultFault {
+    ghost told = { trip-fault };
+
+    fn report(&self) -> Report {
+        match self {
+            TripFault::Read(fault) => fault.report(),
+            TripFault::Write(fault) => fault.report(),
         }
     }
 }
