@@ -36,7 +36,7 @@ pub impl Word for Bits32 as Bits32Word {
     }
 
     fn from_code(code: u64) -> Option<Bits32> {
-        if code <= 4_294_967_295 {
+        if code <= Letter::H.last_code() {
             Some(Bits32::new(code as u32))
         } else {
             None

@@ -26,7 +26,7 @@ pub impl Word for Order as OrderWord {
     }
 
     fn from_code(code: u64) -> Option<Order> {
-        if code <= 99_999 {
+        if code <= Letter::O.last_code() {
             Some(Order::new((code / 1_000) as u8, (code % 1_000) as u16))
         } else {
             None

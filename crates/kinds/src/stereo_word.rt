@@ -51,7 +51,7 @@ pub impl Word for Stereo as StereoWord {
     }
 
     fn from_code(code: u64) -> Option<Stereo> {
-        if code <= 4_294_967_295 {
+        if code <= Letter::S.last_code() {
             Some(Stereo::new((code / 65_536) as u16, (code % 65_536) as u16))
         } else {
             None

@@ -6,7 +6,7 @@ use text::Fault;
 use text::Report;
 
 /// Why a node is refused.
-#[derive(Clone, Copy, PartialEq, Eq, Debug)]
+#[derive(Clone, Copy)]
 pub enum NodeFault {
     /// A macro with a number out of its range.
     OutOfRange,
@@ -17,7 +17,7 @@ pub enum NodeFault {
 }
 
 /// Why a plan does not pass.
-#[derive(Clone, Copy, PartialEq, Eq, Debug)]
+#[derive(Clone, Copy)]
 pub enum CheckFault {
     /// There are no nodes.
     NoNodes,

@@ -4,13 +4,12 @@ ghost use Rattle.std.specs.Orderings.{Decides};
 ghost use Rattle.node.specs.Nodes.{InRange, shape-of, is-macro};
 use crate::shape::Shape;
 use word::Letter;
-use word::LetterDebug;
 use word::LetterEq;
 use word::LetterPartialEq;
 
 /// A macro of the chip. Kind 1 is the array macro and kind 2 the register file; the others are known
 /// to the planner and the netlist alone.
-#[derive(Clone, Copy, PartialEq, Eq, Debug)]
+#[derive(Clone, Copy, PartialEq, Eq)]
 pub struct Macro {
     pub kind: u8,
     pub letter: Letter,
@@ -20,7 +19,7 @@ pub struct Macro {
 }
 
 /// The name of a layer over two memories.
-#[derive(Clone, Copy, PartialEq, Eq, Debug)]
+#[derive(Clone, Copy, PartialEq, Eq)]
 pub enum Layer {
     Replicate,
     Lvt,
@@ -30,7 +29,7 @@ pub enum Layer {
 }
 
 /// A node of a plan.
-#[derive(Clone, Copy, PartialEq, Eq, Debug)]
+#[derive(Clone, Copy, PartialEq, Eq)]
 pub enum Node {
     Macro(Macro),
     Layer(Layer),

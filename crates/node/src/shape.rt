@@ -3,12 +3,11 @@ ghost use Rattle.node.specs.declared.node.Layer.the-variants.{Replicate, Lvt, 
 ghost use Rattle.node.specs.Nodes.{Fitted};
 use crate::node::Layer;
 use word::Letter;
-use word::LetterDebug;
 use word::LetterEq;
 use word::LetterPartialEq;
 
 /// A memory's letter, its numbers of read and write ports, and its depth.
-#[derive(Clone, Copy, PartialEq, Eq, Debug)]
+#[derive(Clone, Copy, PartialEq, Eq)]
 pub struct Shape {
     pub letter: Letter,
     pub reads: u8,

@@ -1,11 +1,13 @@
 // The check of a plan: through the nodes in order, with their places.
 ghost use mathlib.Core.Path.{_≡_};
-ghost use Prim.Native.Nat.{_≤_};
+ghost use Prim.Native.Nat.{_+_, _<_, _≤_};
 ghost use lib.ListN.{length};
 ghost use Rattle.node.specs.Plans.{Checked, ShapeAt, Sole, macro-count};
 ghost use Rattle.node.specs.Stacks.{Stacked};
+ghost use Rattle.node.specs.declared.faults.CheckFault.the-variants.{Node as refused-at};
 use crate::MAX_NODES;
 use crate::faults::CheckFault;
+use crate::faults::NodeFault;
 use crate::node::Node;
 use crate::shape::Shape;
 use crate::stack::Stack;
@@ -30,6 +32,17 @@ pub fn macros(nodes: &[Node]) -> usize
     count
 }
 
+// The fault of a plan whose node `i`, counted from 0, is refused.
+fn refused(i: usize, fault: NodeFault) -> CheckFault
+    requires { ⌜ i < 64 ⌝ }
+    ensures { λ r. ⌜ r ≡ refused-at (i + 1) fault ⌝ }
+{
+    CheckFault::Node {
+        place: i + 1,
+        fault,
+    }
+}
+
 // The memories that the nodes leave, or the first node that is refused.
 fn stacked(nodes: &[Node]) -> Result<Stack, CheckFault>
     requires { ⌜ length (now nodes) ≤ 64 ⌝ }
@@ -39,21 +52,15 @@ fn stacked(nodes: &[Node]) -> Result<Stack, CheckFault>
     for (i, node) in nodes.iter().enumerate() {
         match stack.add(*node) {
             Ok(next) => stack = next,
-            Err(fault) => {
-                return Err(CheckFault::Node {
-                    place: i + 1,
-                    fault,
-                });
-            }
+            Err(fault) => return Err(refused(i, fault)),
         }
     }
     Ok(stack)
 }
 
-/// Whether the nodes are the plan of one memory: its shape and its number of macros, or the first fault.
-pub fn check(nodes: &[Node]) -> Result<Top, CheckFault>
-    ensures says { λ r. ⌜ Checked (now (nodes .entry)) r ⌝ }
-    ensures sole { λ r. ⌜ Sole (now (nodes .entry)) r ⌝ }
+// Goes through the nodes, and sees what they leave.
+fn judge(nodes: &[Node]) -> Result<Top, CheckFault>
+    ensures { λ r. ⌜ Checked (now (nodes .entry)) r ⌝ }
 {
     if nodes.is_empty() {
         return Err(CheckFault::NoNodes);
@@ -61,10 +68,7 @@ pub fn check(nodes: &[Node]) -> Result<Top, CheckFault>
     if nodes.len() > MAX_NODES {
         return Err(CheckFault::TooManyNodes);
     }
-    let stack = match stacked(nodes) {
-        Ok(stack) => stack,
-        Err(fault) => return Err(fault),
-    };
+    let stack = stacked(nodes)?;
     if stack.count > 1 {
         return Err(CheckFault::ManyMemories {
             place: nodes.len() + 1,
@@ -74,6 +78,14 @@ pub fn check(nodes: &[Node]) -> Result<Top, CheckFault>
         shape: stack.shapes[0],
         macros: macros(nodes),
     })
+}
+
+/// Whether the nodes are the plan of one memory: its shape and its number of macros, or the first fault.
+pub fn check(nodes: &[Node]) -> Result<Top, CheckFault>
+    ensures says { λ r. ⌜ Checked (now (nodes .entry)) r ⌝ }
+    ensures sole { λ r. ⌜ Sole (now (nodes .entry)) r ⌝ }
+{
+    judge(nodes)
 }
 
 /// The shape of the memory that ends with the node `last`, counted from 0; none where there is no

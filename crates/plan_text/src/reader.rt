@@ -8,11 +8,9 @@ use text::LineFault;
 use text::MAX_BYTES;
 use text::cut;
 
-/// Reads the nodes of a text into the front of `nodes`, and says how many there are. On a fault the
-/// places that are filled remain; past them the buffer is as it was.
-pub fn read(text: &[u8], nodes: &mut [Node]) -> Result<usize, ReadFault>
-    ensures says { λ r. ⌜ TextRead (now (text .entry)) (now (nodes .entry)) (now (nodes .exit)) r ⌝ }
-    ensures sole { λ r. ⌜ ReadSole (now (text .entry)) (now (nodes .entry)) (now (nodes .exit)) r ⌝ }
+// Reads line by line, up to the first fault.
+fn read_lines(text: &[u8], nodes: &mut [Node]) -> Result<usize, ReadFault>
+    ensures { λ r. ⌜ TextRead (now (text .entry)) (now (nodes .entry)) (now (nodes .exit)) r ⌝ }
 {
     if text.len() > MAX_BYTES {
         return Err(ReadFault::TooLong);
@@ -42,4 +40,13 @@ pub fn read(text: &[u8], nodes: &mut [Node]) -> Result<usize, ReadFault>
         left = rest;
     }
     Ok(count)
+}
+
+/// Reads the nodes of a text into the front of `nodes`, and says how many there are. On a fault the
+/// places that are filled remain; past them the buffer is as it was.
+pub fn read(text: &[u8], nodes: &mut [Node]) -> Result<usize, ReadFault>
+    ensures says { λ r. ⌜ TextRead (now (text .entry)) (now (nodes .entry)) (now (nodes .exit)) r ⌝ }
+    ensures sole { λ r. ⌜ ReadSole (now (text .entry)) (now (nodes .entry)) (now (nodes .exit)) r ⌝ }
+{
+    read_lines(text, nodes)
 }

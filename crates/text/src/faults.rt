@@ -4,7 +4,7 @@ ghost use Rattle.text.specs.declared.faults.Report.{Report};
 ghost use Rattle.text.specs.Faults.{line-fault};
 
 /// What is printed of a fault: its number, and the line or node where it lies.
-#[derive(Clone, Copy, PartialEq, Eq, Debug)]
+#[derive(Clone, Copy, PartialEq, Eq)]
 pub struct Report {
     pub number: u8,
     pub place: usize,
@@ -20,7 +20,7 @@ pub trait Fault {
 }
 
 /// Why a line is refused, whatever its format.
-#[derive(Clone, Copy, PartialEq, Eq, Debug)]
+#[derive(Clone, Copy)]
 pub enum LineFault {
     /// Not of the format.
     Malformed,

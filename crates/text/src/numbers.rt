@@ -1,5 +1,15 @@
 // Numerals: 1 to 20 decimal digits without a leading zero, save 0 itself.
-ghost use Rattle.text.specs.Numbers.{NumberRead};
+ghost use Rattle.text.specs.Numbers.{DigitRead, NumberRead};
+
+// The value of a decimal digit.
+fn digit(byte: u8) -> Option<u8>
+    ensures { λ r. ⌜ DigitRead byte r ⌝ }
+{
+    match byte {
+        b'0'..=b'9' => Some(byte - b'0'),
+        _ => None,
+    }
+}
 
 /// The number that a field writes, or none where it writes no number.
 pub fn number(field: &[u8]) -> Option<u128>
@@ -13,10 +23,10 @@ pub fn number(field: &[u8]) -> Option<u128>
     }
     let mut n = 0u128;
     for b in field {
-        match *b {
-            b'0'..=b'9' => n = n * 10 + u128::from(*b - b'0'),
-            _ => return None,
-        }
+        let Some(d) = digit(*b) else {
+            return None;
+        };
+        n = n * 10 + d as u128;
     }
     Some(n)
 }

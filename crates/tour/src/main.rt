@@ -5,12 +5,14 @@ use node::CheckFaultFault;
 use node::Layer;
 use node::MAX_NODES;
 use node::Node;
+use node::NodePartialEq;
 use node::check;
 use node_line::render;
 use plan_text::ReadFaultFault;
-use plan_text::WriteFaultFault;
+use plan_text::TripFaultFault;
 use plan_text::read;
-use plan_text::write;
+use plan_text::reread;
+use plan_text::rewrite;
 use seal::Draft;
 use seal::Sealed;
 use std::error::AnyError;
@@ -88,17 +90,39 @@ fn show_check(rt: &LibcRuntime, nodes: &[Node]) -> Result<(), AnyError> {
     }
 }
 
-// The text of the nodes again, and whether it is the one that was read.
-fn show_text(rt: &LibcRuntime, nodes: &[Node], text: &[u8]) -> Result<(), AnyError> {
+// The way from the text to nodes and back to a text: it is the same text.
+fn show_rewritten(rt: &LibcRuntime, text: &[u8]) -> Result<(), AnyError> {
+    let mut nodes = [Node::Layer(Layer::Lvt); MAX_NODES];
     let mut out = vec![in rt.alloc(); 0u8; MAX_BYTES]?;
-    match write(nodes, &mut out) {
-        Ok(n) => {
-            let same = out.as_slice().starts_with(text) && n == text.len();
-            let verdict = if same { "the same" } else { "another" };
-            println!(rt, "written back: {n} bytes, {verdict}")?;
+    match rewrite(text, &mut nodes, &mut out) {
+        Ok(size) => {
+            let same = if out.as_slice().starts_with(text) {
+                "the same"
+            } else {
+                "another"
+            };
+            println!(rt, "text written back: {size} bytes, {same} text")?;
             Ok(())
         }
-        Err(fault) => show_fault(rt, "write", &fault),
+        Err(fault) => show_fault(rt, "text written back", &fault),
+    }
+}
+
+// The way from the nodes to a text and back to nodes: they are the same nodes.
+fn show_reread(rt: &LibcRuntime, nodes: &[Node]) -> Result<(), AnyError> {
+    let mut back = [Node::Layer(Layer::Lvt); MAX_NODES];
+    let mut out = vec![in rt.alloc(); 0u8; MAX_BYTES]?;
+    match reread(nodes, &mut out, &mut back) {
+        Ok(count) => {
+            let same = if back.as_slice().starts_with(nodes) {
+                "the same"
+            } else {
+                "other"
+            };
+            println!(rt, "nodes read back: {count}, {same} nodes")?;
+            Ok(())
+        }
+        Err(fault) => show_fault(rt, "nodes read back", &fault),
     }
 }
 
@@ -114,7 +138,8 @@ fn show_design(rt: &LibcRuntime, name: &str, text: &[u8]) -> Result<(), AnyError
     println!(rt, "read: {count} nodes")?;
     let nodes = &nodes[0..count];
     show_check(rt, nodes)?;
-    show_text(rt, nodes, text)?;
+    show_rewritten(rt, text)?;
+    show_reread(rt, nodes)?;
     let draft = Draft::new(nodes);
     show_plan(rt, draft.seal())
 }

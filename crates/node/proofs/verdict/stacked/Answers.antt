@@ -1,4 +1,4 @@
-use mathlib.Core.Path.{refl, sym, ap, subst, _∙_}
+use mathlib.Core.Path.{sym, ap, subst, _∙_}
 use mathlib.Core.List.{List}
 use Prim.Native.Nat.{ℕ, _+_}
 use native.Mathlib.Omega.{arith}
@@ -20,7 +20,7 @@ returns-in-Err c =
     let i = c .loop-i .i in (
       _,
       _,
-      refl,
+      c .refused .ensures,
       record {
         before = take i ns;
         node = _;
