@@ -1,5 +1,4 @@
 // The orders as a word kind. Orders have no sum.
-ghost use mathlib.Core.Path.{_≡_};
 ghost use Rattle.word.specs.declared.Letter.the-variants.{O as letter-o};
 ghost use Rattle.kinds.specs.Orders.{order-zero, order-code};
 use crate::order::Order;

@@ -15,7 +15,7 @@ use Rattle.node.specs.declared.faults.NodeFault.the-variants.{OutOfRange, TooF
 use Rattle.node.specs.declared.node.Node.{Node}
 use Rattle.node.specs.declared.node.Node.the-variants.{Macro as macro-node, Layer as layer-node}
 use Rattle.node.specs.declared.shape.Shape.{Shape}
-use Rattle.node.specs.Nodes.{InRange, Fits}
+use Rattle.node.specs.Nodes.{InRange}
 use Rattle.node.specs.Plans.{Plan, single, layered, Plans, none, then, NodeRefused, FirstRefused, macro-count, Checked, Sole}
 use Rattle.node.specs.Stacks.{Taken}
 

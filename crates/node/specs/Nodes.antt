@@ -1,10 +1,9 @@
 -- What a node stands for: a macro in range has a shape, and a layer makes a shape of two that fit.
 use mathlib.Core.Path.{_≡_}
 use mathlib.Core.Bool.{Bool, true, false}
-use Prim.Native.Nat.{ℕ, _+_, _-_, _≤_, _<_, min}
+use Prim.Native.Nat.{_+_, _-_, _≤_, _<_, min}
 use Rattle.std.specs.declared.option.Option.{Option}
 use Rattle.std.specs.declared.option.Option.the-variants.{Some, None}
-use Rattle.word.specs.declared.Letter.{Letter}
 use Rattle.word.specs.declared.Letter.the-variants.{H, B}
 use Rattle.word.specs.Letters.{summed}
 use Rattle.node.specs.declared.node.Layer.{Layer}

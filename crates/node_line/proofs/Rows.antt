@@ -1,25 +1,23 @@
 -- The fields of a macro's line are found in one way.
 use mathlib.Core.Path.{_≡_, refl, sym, ap, subst, _∙_}
-use mathlib.Core.List.{List, [], _∷_, _++_}
-use mathlib.Core.Logic.{_⊎_, inl, inr}
-use Prim.Native.Nat.{ℕ, _^_, _<_, _≤_}
+use mathlib.Core.List.{List, _∷_, _++_}
+use mathlib.Core.Logic.{inl, inr}
+use Prim.Native.Nat.{ℕ}
 use native.Mathlib.Omega.{arith}
 use lib.Chars.{codes}
 use Rattle.std.specs.Pieces.{Lacks}
 use Rattle.std.specs.Written.{decimal}
 use Rattle.word.specs.declared.Letter.{Letter}
 use Rattle.word.specs.declared.Letter.the-variants.{H, B, S, O}
-use Rattle.text.specs.Numbers.{Canonical}
 use Rattle.text.proofs.Cuts.{same-cut, no-cut, number-off, lacks-by-test}
 use Rattle.text.proofs.Numerals.{canonical-decimal, written, valued}
 use Rattle.node.specs.declared.node.Layer.{Layer}
 use Rattle.node.specs.declared.node.Layer.the-variants.{Replicate, Lvt, Xor, Depth, Width}
 use Rattle.node.specs.declared.node.Macro.{Macro}
-use Rattle.node.specs.declared.node.Node.{Node}
 use Rattle.node.specs.declared.node.Node.the-variants as node
 use Rattle.node.specs.Nodes.{InRange}
 use Rattle.node_line.specs.declared.Fields.{Fields}
-use Rattle.node_line.specs.Lines.{Row, WellFormed, NodeLine, row, macro-line, line-of, letter-byte, layer-name}
+use Rattle.node_line.specs.Lines.{Row, WellFormed, NodeLine, row, line-of, letter-byte, layer-name}
 use Rattle.node_line.specs.Reading.{Says, macro-of}
 
 -- a letter and a TAB are taken off in one way

@@ -1,13 +1,13 @@
 -- The text of nodes in range determines the nodes: line by line there is one node to read.
 use mathlib.Core.Path.{_≡_, refl, sym, ap, _∙_}
 use mathlib.Core.Bool.{cond}
-use mathlib.Core.List.{List, [], _∷_, _++_, append-assoc, append-nil}
+use mathlib.Core.List.{List, [], _∷_, _++_, append-assoc}
 use mathlib.Core.Logic.{_⊎_, inl, inr}
 use Prim.Native.Nat.{ℕ, _^_, _<_}
 use native.Mathlib.Omega.{arith}
 use lib.Chars.{codes}
 use lib.Dec.{eqb}
-use lib.ListN.{length, getD, length-append}
+use lib.ListN.{getD}
 use Rattle.std.specs.Pieces.{Lacks}
 use Rattle.std.specs.Written.{decimal}
 use Rattle.std.specs.shelf.Lists.{All}
@@ -111,14 +111,3 @@ fronts (n ∷ ns) (m ∷ ms) rest rest′ h k e =
       | inl (ks, is, left) ↦ inl (ks, (λ i. same i ∷ is i), left)
       | inr (ks, is, left) ↦ inr (ks, (λ i. sym same i ∷ is i), left)
     ]
-
--- where nothing follows the nodes ns, none go on from them
-ends-there : (ns ms : List Node) (rest : List ℕ) → GoesOn ms rest ns [] → GoesOn ns [] ms rest
-ends-there ns ms rest ([], is, left) = ([], sym (append-nil ms ∙ is ∙ append-nil ns), sym left)
-ends-there ns ms rest (k ∷ ks, is, left) = absurd (omega (arith, ap length (left ∙ text-cons k ks rest) ∙ length-append (line-of k) (10 ∷ (text-of ks ++ rest))))
-
--- nodes whose text begins with that of others go on from them
-pub same-front : (ns ms : List Node) (rest : List ℕ) → All NodeInRange ns → All NodeInRange ms → text-of ns ≡ text-of ms ++ rest → (ks : List Node) × (ns ≡ ms ++ ks) × (rest ≡ text-of ks)
-same-front ns ms rest h k e =
-    let whole : GoesOn ns [] ms rest = elim (fronts ns ms [] rest h k (append-nil (text-of ns) ∙ e)) [ inl g ↦ g | inr g ↦ ends-there ns ms rest g ] in
-    (whole .0, whole .1, whole .2 ∙ append-nil (text-of (whole .0)))

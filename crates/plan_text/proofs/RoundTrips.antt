@@ -21,7 +21,7 @@ use Rattle.node_line.specs.Lines.{line-of, NodeInRange}
 use Rattle.node_line.proofs.Rendering.{line-short}
 use Rattle.plan_text.specs.declared.faults.ReadFault.{ReadFault}
 use Rattle.plan_text.specs.declared.faults.ReadFault.the-variants as reading
-use Rattle.plan_text.specs.Texts.{Front, NodeComes, ReadSole, TextRead, text-of}
+use Rattle.plan_text.specs.Texts.{NodeComes, ReadSole, TextRead, text-of}
 use Rattle.plan_text.specs.declared.faults.TripFault.{TripFault}
 use Rattle.plan_text.specs.declared.faults.TripFault.the-variants as trip
 use Rattle.plan_text.specs.declared.faults.WriteFault.{WriteFault}

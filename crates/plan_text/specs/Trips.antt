@@ -10,7 +10,6 @@ use Rattle.node.specs.Plans.{Checked}
 use Rattle.plan_text.specs.declared.faults.ReadFault.the-variants as reading
 use Rattle.plan_text.specs.declared.faults.TripFault.{TripFault}
 use Rattle.plan_text.specs.declared.faults.TripFault.the-variants as trip
-use Rattle.plan_text.specs.declared.faults.WriteFault.{WriteFault}
 use Rattle.plan_text.specs.declared.faults.WriteFault.the-variants as writing
 use Rattle.plan_text.specs.Texts.{TextRead, text-of}
 use Rattle.plan_text.specs.Writing.{Passing, TextWritten}

@@ -1,16 +1,15 @@
 -- Fields and lines in a list of bytes.
-use mathlib.Core.Path.{_≡_, refl, sym, ap, subst, _∙_}
+use mathlib.Core.Path.{_≡_, refl, sym, ap, _∙_}
 use mathlib.Core.List.{List, [], _∷_, _++_}
-use Prim.Native.Nat.{ℕ, _+_, _-_, _≤_, _<_}
+use Prim.Native.Nat.{ℕ, _+_, _-_, _≤_}
 use native.Mathlib.Numerals.{add-one}
 use native.Mathlib.Omega.{arith}
-use mathlib.Core.Bool.{Bool, true, false, not, _&&_}
+use mathlib.Core.Bool.{Bool, true, not, _&&_}
 use lib.Dec.{eqb}
 use Rattle.std.specs.shelf.Lists.{All}
 use Rattle.std.proofs.shelf.Elements.{all-getD}
 use Rattle.std.proofs.shelf.Tests.{and-parts, not-true, eqb-false}
-use borrow.Author.Needs.{needs}
-use lib.ListN.{length, getD, take, drop, length-append}
+use lib.ListN.{length, getD, drop, length-append}
 use Rattle.std.specs.Holes.{between}
 use Rattle.std.specs.Pieces.{Lacks}
 use Rattle.std.proofs.shelf.Lists.{drop-more, drop-all, getD-at}

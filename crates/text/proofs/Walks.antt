@@ -1,14 +1,14 @@
 -- A walk over a list by `[first, rest @ ..]`, up to a separator.
-use mathlib.Core.Path.{_≡_, refl, sym, ap, subst, _∙_}
-use mathlib.Core.List.{List, [], _∷_, _++_}
-use Prim.Native.Nat.{ℕ, _+_, _-_, _≤_, _<_}
+use mathlib.Core.Path.{_≡_, sym, ap, _∙_}
+use mathlib.Core.List.{List, _∷_, _++_}
+use Prim.Native.Nat.{ℕ, _+_, _-_, _<_}
 use native.Mathlib.Nat.{add-zero}
 use native.Mathlib.Omega.{arith}
 use borrow.Author.Count.{below-more}
 use lib.ListN.{length, getD, take, drop, length-drop, length-take, take-append-drop}
 use Rattle.std.specs.Holes.{between}
 use Rattle.std.specs.Pieces.{Lacks}
-use Rattle.std.proofs.shelf.Lists.{drop-drop, getD-drop, drop-more, getD-take, length-take-le}
+use Rattle.std.proofs.shelf.Lists.{drop-drop, getD-drop, drop-more, getD-take}
 use Rattle.std.proofs.shelf.Parts.{between-to-end}
 
 -- the walk over bs has come to n: left is what is to come, and no byte before it is s
@@ -38,6 +38,3 @@ module _ {s : ℕ} {bs left : List ℕ} {n : ℕ} (w : Walk s bs left n) (some :
         sym (take-append-drop n bs) ∙ ap (λ l. take n bs ++ l) (drop-more bs n 0 lt ∙ (λ i. (sym first-is ∙ e) i ∷ sym rest-is i)) ∙ ap (λ k. take k bs ++ (s ∷ between 1 (length left) left)) (sym z),
         rw z (λ k h eq. let inn : k < n = omega (arith, length-take n bs) in w .free k inn (sym (getD-take n bs k 0 inn) ∙ eq)),
       )
-
-pub walk-none : {s : ℕ} {bs left : List ℕ} {n : ℕ} → Walk s bs left n → length left ≡ 0 → Lacks s bs
-walk-none w e k h eq = w .free k (omega (arith, w .sum)) eq

@@ -1,7 +1,6 @@
-use mathlib.Core.Path.{sym, ap, subst, _∙_}
-use mathlib.Core.List.{List, [], _∷_, _++_}
+use mathlib.Core.Path.{sym, ap, _∙_}
+use mathlib.Core.List.{[], _∷_, _++_}
 use Rattle.node.specs.declared.node.Node.{Node}
-use Prim.Native.Nat.{ℕ}
 use Rattle.text.proofs.Lines.{adds-first, adds-then, adds-is, adds-whole}
 use Rattle.node_line.specs.Lines.{line-of}
 use Rattle.node_line.proofs.Rendering.{layer-short}

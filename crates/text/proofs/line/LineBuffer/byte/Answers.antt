@@ -1,4 +1,3 @@
-use native.Mathlib.Omega.{arith}
 use borrow.Author.Needs.{needs}
 use Rattle.text.proofs.Lines.{byte-kept, byte-lost}
 use Rattle.text.proofs.line.LineBuffer.byte.Needs as need
