@@ -12,17 +12,18 @@ use Rattle.node.specs.declared.node.Macro.{Macro}
 use Rattle.node.specs.declared.node.Node.{Node}
 use Rattle.node.specs.declared.node.Node.the-variants.{Macro as macro-node, Layer as layer-node}
 use Rattle.node.specs.declared.shape.Shape.{Shape}
+use Rattle.node.specs.Limits.{max-kind, max-ports, max-depth, max-marks}
 
 -- every number of a macro is in its range
 pub record InRange (m : Macro) : Type 0 where
   pub kind-low : 1 ≤ m .kind
-  pub kind-high : m .kind ≤ 15
+  pub kind-high : m .kind ≤ max-kind
   pub reads-low : 1 ≤ m .reads
-  pub reads-high : m .reads ≤ 16
+  pub reads-high : m .reads ≤ max-ports
   pub writes-low : 1 ≤ m .writes
-  pub writes-high : m .writes ≤ 16
+  pub writes-high : m .writes ≤ max-ports
   pub depth-low : 1 ≤ m .depth
-  pub depth-high : m .depth ≤ 65536
+  pub depth-high : m .depth ≤ max-depth
 
 -- the memory that a macro is
 abbrev pub shape-of : Macro → Shape
@@ -35,10 +36,10 @@ is-macro (layer-node l) = false
 
 -- when a layer can stand over the halves a and b
 abbrev pub Fits : Layer → Shape → Shape → Type 0
-Fits Replicate a b = (a .letter ≡ b .letter) × (a .depth ≡ b .depth) × (a .writes ≡ b .writes) × (a .reads + b .reads ≤ 16)
-Fits Lvt a b = (a .letter ≡ b .letter) × (a .depth ≡ b .depth) × (a .depth ≤ 1024) × (a .reads ≡ b .reads) × (a .writes + b .writes ≤ 16)
-Fits Xor a b = (a .letter ≡ b .letter) × (summed (a .letter) ≡ true) × (a .depth ≡ b .depth) × (b .writes < a .reads) × (a .writes < b .reads) × (a .writes + b .writes ≤ 16)
-Fits Depth a b = (a .letter ≡ b .letter) × (a .reads ≡ b .reads) × (a .writes ≡ b .writes) × (a .depth + b .depth ≤ 65536)
+Fits Replicate a b = (a .letter ≡ b .letter) × (a .depth ≡ b .depth) × (a .writes ≡ b .writes) × (a .reads + b .reads ≤ max-ports)
+Fits Lvt a b = (a .letter ≡ b .letter) × (a .depth ≡ b .depth) × (a .depth ≤ max-marks) × (a .reads ≡ b .reads) × (a .writes + b .writes ≤ max-ports)
+Fits Xor a b = (a .letter ≡ b .letter) × (summed (a .letter) ≡ true) × (a .depth ≡ b .depth) × (b .writes < a .reads) × (a .writes < b .reads) × (a .writes + b .writes ≤ max-ports)
+Fits Depth a b = (a .letter ≡ b .letter) × (a .reads ≡ b .reads) × (a .writes ≡ b .writes) × (a .depth + b .depth ≤ max-depth)
 Fits Width a b = (a .letter ≡ H) × (b .letter ≡ H) × (a .depth ≡ b .depth) × (a .reads ≡ b .reads) × (a .writes ≡ b .writes)
 
 -- the memory that a layer makes of halves that fit

@@ -18,6 +18,7 @@ use Rattle.node.specs.declared.node.Macro.{Macro}
 use Rattle.node.specs.declared.node.Node.{Node}
 use Rattle.node.specs.declared.node.Node.the-variants.{Macro as macro-node, Layer as layer-node}
 use Rattle.node.specs.declared.shape.Shape.{Shape}
+use Rattle.node.specs.Limits.{max-nodes}
 use Rattle.node.specs.Nodes.{InRange, Fits, shape-of, over, is-macro}
 
 -- the nodes of one memory, with its shape: a macro in range alone, or the nodes of two halves that
@@ -36,9 +37,9 @@ abbrev pub macro-count : List Node → ℕ
 macro-count [] = 0
 macro-count (n ∷ ns) = cond (is-macro n) 1 0 + macro-count ns
 
--- what passes the check: a plan of one memory, of at most 64 nodes
+-- what passes the check: a plan of one memory, of at most as many nodes as a plan may have
 abbrev pub Passes : List Node → Shape → Type 0
-Passes ns s = (length ns ≤ 64) × Plan ns s
+Passes ns s = (length ns ≤ max-nodes) × Plan ns s
 
 -- why a node is refused after memories of the shapes st, the last one's first
 abbrev pub NodeRefused : List Shape → Node → NodeFault → Type 0
@@ -61,9 +62,9 @@ pub record FirstRefused (ns : List Node) (place : ℕ) (f : NodeFault) : Type 0 
 abbrev pub Checked : List Node → Result Top CheckFault → Type 0
 Checked ns (Ok t) = Passes ns (t .shape) × (t .macros ≡ macro-count ns)
 Checked ns (Err fault.NoNodes) = ns ≡ []
-Checked ns (Err fault.TooManyNodes) = 64 < length ns
-Checked ns (Err (fault.Node place f)) = (length ns ≤ 64) × FirstRefused ns place f
-Checked ns (Err (fault.ManyMemories place)) = (length ns ≤ 64) × (place ≡ length ns + 1) × ((st : List Shape) × Plans ns st × (1 < length st))
+Checked ns (Err fault.TooManyNodes) = max-nodes < length ns
+Checked ns (Err (fault.Node place f)) = (length ns ≤ max-nodes) × FirstRefused ns place f
+Checked ns (Err (fault.ManyMemories place)) = (length ns ≤ max-nodes) × (place ≡ length ns + 1) × ((st : List Shape) × Plans ns st × (1 < length st))
 
 -- no other answer to these nodes would do
 abbrev pub Sole : List Node → Result Top CheckFault → Type 0
@@ -71,5 +72,5 @@ Sole ns r = (q : Result Top CheckFault) → Checked ns q → q ≡ r
 
 -- the shape of the memory that ends with a node, counted from 0, or none
 abbrev pub ShapeAt : List Node → ℕ → Option Shape → Type 0
-ShapeAt ns last (Some s) = (last < length ns) × (last < 64) × ((st : List Shape) × Plans (take (last + 1) ns) (s ∷ st))
-ShapeAt ns last None = last < length ns → last < 64 → (st : List Shape) → Plans (take (last + 1) ns) st → ⊥
+ShapeAt ns last (Some s) = (last < length ns) × (last < max-nodes) × ((st : List Shape) × Plans (take (last + 1) ns) (s ∷ st))
+ShapeAt ns last None = last < length ns → last < max-nodes → (st : List Shape) → Plans (take (last + 1) ns) st → ⊥

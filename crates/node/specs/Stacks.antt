@@ -12,6 +12,7 @@ use Rattle.node.specs.declared.faults.NodeFault.{NodeFault}
 use Rattle.node.specs.declared.node.Node.{Node}
 use Rattle.node.specs.declared.node.Node.the-variants.{Macro as macro-node, Layer as layer-node}
 use Rattle.node.specs.declared.shape.Shape.{Shape}
+use Rattle.node.specs.Limits.{max-nodes}
 use Rattle.node.specs.Nodes.{InRange, Fits, shape-of, over}
 use Rattle.node.specs.Plans.{Plans, NodeRefused, FirstRefused}
 
@@ -35,5 +36,5 @@ Added old n (Err f) = NodeRefused (held old) n f
 
 -- the stack that nodes leave, which counts no more than they are, or the first that is refused
 abbrev pub Stacked : List Node → Result Stack CheckFault → Type 0
-Stacked ns (Ok stack) = Plans ns (held stack) × (stack .count ≤ length ns) × (length (stack .shapes) ≡ 64)
+Stacked ns (Ok stack) = Plans ns (held stack) × (stack .count ≤ length ns) × (length (stack .shapes) ≡ max-nodes)
 Stacked ns (Err f) = (place : ℕ) × (why : NodeFault) × (f ≡ fault.Node place why) × FirstRefused ns place why

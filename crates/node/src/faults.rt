@@ -1,7 +1,7 @@
 // Why a plan does not pass the check.
 ghost use mathlib.Core.Path.{_≡_};
 ghost use Rattle.node.specs.Faults.{node-fault, check-fault};
-use crate::MAX_NODES;
+use crate::limits::MAX_NODES;
 use text::Fault;
 use text::Report;
 

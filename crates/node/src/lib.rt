@@ -3,6 +3,7 @@
 // A node is a macro of the chip or a layer over two memories. The nodes of a pile are those of its
 // first half, those of its second, and its own layer.
 mod faults;
+mod limits;
 mod node;
 mod shape;
 mod stack;
@@ -11,6 +12,11 @@ mod verdict;
 pub use faults::CheckFault;
 pub use faults::CheckFaultFault;
 pub use faults::NodeFault;
+pub use limits::MAX_DEPTH;
+pub use limits::MAX_KIND;
+pub use limits::MAX_MARKS;
+pub use limits::MAX_NODES;
+pub use limits::MAX_PORTS;
 pub use node::Layer;
 pub use node::LayerEq;
 pub use node::LayerPartialEq;
@@ -27,6 +33,3 @@ pub use verdict::Top;
 pub use verdict::check;
 pub use verdict::macros;
 pub use verdict::shape_at;
-
-/// The largest number of nodes that a plan may have.
-pub const MAX_NODES: usize = 64;

@@ -2,6 +2,9 @@
 ghost use mathlib.Core.Path.{_≡_};
 ghost use Rattle.std.specs.Orderings.{Decides};
 ghost use Rattle.node.specs.Nodes.{InRange, shape-of, is-macro};
+use crate::limits::MAX_DEPTH;
+use crate::limits::MAX_KIND;
+use crate::limits::MAX_PORTS;
 use crate::shape::Shape;
 use word::Letter;
 use word::LetterEq;
@@ -42,7 +45,7 @@ impl Macro {
     {
         matches!(
             (self.kind, self.reads, self.writes, self.depth),
-            (1..=15, 1..=16, 1..=16, 1..=65_536)
+            (1..=MAX_KIND, 1..=MAX_PORTS, 1..=MAX_PORTS, 1..=MAX_DEPTH)
         )
     }
 

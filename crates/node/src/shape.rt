@@ -1,6 +1,9 @@
 // The shape of a memory, and the shape of a layer over two memories that fit.
 ghost use Rattle.node.specs.declared.node.Layer.the-variants.{Replicate, Lvt, Xor, Depth, Width};
 ghost use Rattle.node.specs.Nodes.{Fitted};
+use crate::limits::MAX_DEPTH;
+use crate::limits::MAX_MARKS;
+use crate::limits::MAX_PORTS;
 use crate::node::Layer;
 use word::Letter;
 use word::LetterEq;
@@ -14,15 +17,6 @@ pub struct Shape {
     pub writes: u8,
     pub depth: u32,
 }
-
-/// The largest number of read ports, and of write ports.
-const MAX_PORTS: u32 = 16;
-
-/// The largest depth of a memory.
-const MAX_DEPTH: u64 = 65_536;
-
-/// The largest depth of a live-value table.
-const MAX_MARKS: u32 = 1_024;
 
 impl Layer {
     /// The shape of the layer over halves `a` and `b`, or none where they do not fit.
@@ -44,7 +38,11 @@ fn replicate(a: Shape, b: Shape) -> Option<Shape>
     ensures { λ r. ⌜ Fitted Replicate a b r ⌝ }
 {
     let reads = a.reads as u32 + b.reads as u32;
-    if a.letter == b.letter && a.depth == b.depth && a.writes == b.writes && reads <= MAX_PORTS {
+    if a.letter == b.letter
+        && a.depth == b.depth
+        && a.writes == b.writes
+        && reads <= MAX_PORTS as u32
+    {
         Some(Shape {
             reads: reads as u8,
             ..a
@@ -63,7 +61,7 @@ fn lvt(a: Shape, b: Shape) -> Option<Shape>
         && a.depth == b.depth
         && a.depth <= MAX_MARKS
         && a.reads == b.reads
-        && writes <= MAX_PORTS
+        && writes <= MAX_PORTS as u32
     {
         Some(Shape {
             writes: writes as u8,
@@ -84,7 +82,7 @@ fn xor(a: Shape, b: Shape) -> Option<Shape>
         && a.depth == b.depth
         && a.reads > b.writes
         && b.reads > a.writes
-        && writes <= MAX_PORTS
+        && writes <= MAX_PORTS as u32
     {
         let reads = (a.reads - b.writes).min(b.reads - a.writes);
         Some(Shape {
@@ -102,7 +100,11 @@ fn depth(a: Shape, b: Shape) -> Option<Shape>
     ensures { λ r. ⌜ Fitted Depth a b r ⌝ }
 {
     let depth = a.depth as u64 + b.depth as u64;
-    if a.letter == b.letter && a.reads == b.reads && a.writes == b.writes && depth <= MAX_DEPTH {
+    if a.letter == b.letter
+        && a.reads == b.reads
+        && a.writes == b.writes
+        && depth <= MAX_DEPTH as u64
+    {
         Some(Shape {
             depth: depth as u32,
             ..a

@@ -3,9 +3,10 @@ ghost use mathlib.Core.Path.{_≡_};
 ghost use mathlib.Core.List.{[]};
 ghost use Prim.Native.Nat.{_<_, _≤_};
 ghost use Rattle.node.specs.declared.node.Node.the-variants.{Layer as layer-node};
+ghost use Rattle.node.specs.Limits.{max-nodes};
 ghost use Rattle.node.specs.Stacks.{held, Added, Covered};
-use crate::MAX_NODES;
 use crate::faults::NodeFault;
+use crate::limits::MAX_NODES;
 use crate::node::Layer;
 use crate::node::Node;
 use crate::shape::Shape;
@@ -36,7 +37,7 @@ impl Stack {
 
     // One memory more on top of the lowest `below`; those above them are gone.
     fn put(mut self, below: usize, shape: Shape) -> Stack
-        requires { ⌜ below < 64 ⌝ }
+        requires { ⌜ below < max-nodes ⌝ }
         ensures { λ r. ⌜ Covered self below shape r ⌝ }
     {
         self.shapes[below] = shape;
@@ -46,7 +47,7 @@ impl Stack {
 
     // A layer in the place of the two memories on top.
     fn join(self, layer: Layer) -> Result<Stack, NodeFault>
-        requires { ⌜ self .count ≤ 64 ⌝ }
+        requires { ⌜ self .count ≤ max-nodes ⌝ }
         ensures { λ r. ⌜ Added self (layer-node layer) r ⌝ }
     {
         let count = self.count;
@@ -63,7 +64,7 @@ impl Stack {
 
     // The stack after one node more: a macro is one memory more, and a layer takes the two on top.
     pub(crate) fn add(self, node: Node) -> Result<Stack, NodeFault>
-        requires { ⌜ self .count < 64 ⌝ }
+        requires { ⌜ self .count < max-nodes ⌝ }
         ensures { λ r. ⌜ Added self node r ⌝ }
     {
         match node {

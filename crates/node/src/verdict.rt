@@ -2,12 +2,13 @@
 ghost use mathlib.Core.Path.{_≡_};
 ghost use Prim.Native.Nat.{_+_, _<_, _≤_};
 ghost use lib.ListN.{length};
+ghost use Rattle.node.specs.Limits.{max-nodes};
 ghost use Rattle.node.specs.Plans.{Checked, ShapeAt, Sole, macro-count};
 ghost use Rattle.node.specs.Stacks.{Stacked};
 ghost use Rattle.node.specs.declared.faults.CheckFault.the-variants.{Node as refused-at};
-use crate::MAX_NODES;
 use crate::faults::CheckFault;
 use crate::faults::NodeFault;
+use crate::limits::MAX_NODES;
 use crate::node::Node;
 use crate::shape::Shape;
 use crate::stack::Stack;
@@ -34,7 +35,7 @@ pub fn macros(nodes: &[Node]) -> usize
 
 // The fault of a plan whose node `i`, counted from 0, is refused.
 fn refused(i: usize, fault: NodeFault) -> CheckFault
-    requires { ⌜ i < 64 ⌝ }
+    requires { ⌜ i < max-nodes ⌝ }
     ensures { λ r. ⌜ r ≡ refused-at (i + 1) fault ⌝ }
 {
     CheckFault::Node {
@@ -45,7 +46,7 @@ fn refused(i: usize, fault: NodeFault) -> CheckFault
 
 // The memories that the nodes leave, or the first node that is refused.
 fn stacked(nodes: &[Node]) -> Result<Stack, CheckFault>
-    requires { ⌜ length (now nodes) ≤ 64 ⌝ }
+    requires { ⌜ length (now nodes) ≤ max-nodes ⌝ }
     ensures { λ r. ⌜ Stacked (now (nodes .entry)) r ⌝ }
 {
     let mut stack = Stack::new();

@@ -82,27 +82,19 @@ fn fields_of(bytes: &[u8]) -> Option<Fields>
     })
 }
 
-// The macro with these fields, if each number is within its range.
+// The macro with these fields, if each number is within its range. A number that its type cannot hold is
+// out of range too, and is taken as the largest that it holds.
 fn within(fields: Fields) -> Option<Macro>
     ensures { λ r. ⌜ Ranged fields r ⌝ }
 {
-    let Fields {
-        kind,
-        letter,
-        reads,
-        writes,
-        depth,
-    } = fields;
-    match (kind, reads, writes, depth) {
-        (1..=15, 1..=16, 1..=16, 1..=65_536) => Some(Macro {
-            kind: kind as u8,
-            letter,
-            reads: reads as u8,
-            writes: writes as u8,
-            depth: depth as u32,
-        }),
-        _ => None,
-    }
+    let m = Macro {
+        kind: fields.kind.min(u8::MAX as u128) as u8,
+        letter: fields.letter,
+        reads: fields.reads.min(u8::MAX as u128) as u8,
+        writes: fields.writes.min(u8::MAX as u128) as u8,
+        depth: fields.depth.min(u32::MAX as u128) as u32,
+    };
+    if m.is_in_range() { Some(m) } else { None }
 }
 
 fn is_macro(word: &[u8]) -> bool

@@ -13,6 +13,7 @@ use Rattle.text.specs.declared.faults.LineFault.{LineFault}
 use Rattle.text.specs.declared.faults.LineFault.the-variants.{Malformed}
 use Rattle.text.specs.Faults.{max-bytes}
 use Rattle.node.specs.declared.node.Node.{Node}
+use Rattle.node.specs.Limits.{max-nodes}
 use Rattle.node_line.specs.Lines.{line-of, NodeInRange, NodeLine}
 use Rattle.node_line.specs.Reading.{LineRead}
 use Rattle.plan_text.specs.declared.faults.ReadFault.{ReadFault}
@@ -30,7 +31,7 @@ Begins rest line = ((more : List ℕ) × (rest ≡ line ++ (10 ∷ more))) × La
 pub record Front (text : List ℕ) (old new ns : List Node) (rest : List ℕ) : Type 0 where
   pub split : text ≡ text-of ns ++ rest
   pub ranged : All NodeInRange ns
-  pub few : length ns ≤ 64
+  pub few : length ns ≤ max-nodes
   pub fits : length ns ≤ length old
   pub buffer : new ≡ ns ++ drop (length ns) old
 
@@ -46,8 +47,8 @@ NodeComes rest = (line : List ℕ) × Begins rest line × NodeLine line
 abbrev pub Stops : ℕ → List Node → List ℕ → ReadFault → Type 0
 Stops room ns rest reading.TooLong = ⊥
 Stops room ns rest (reading.Line line f) = (line ≡ length ns + 1) × LineFails rest f
-Stops room ns rest (reading.TooManyNodes line) = (line ≡ length ns + 1) × NodeComes rest × (length ns ≡ 64)
-Stops room ns rest (reading.NoPlace line) = (line ≡ length ns + 1) × NodeComes rest × (length ns < 64) × (length ns ≡ room)
+Stops room ns rest (reading.TooManyNodes line) = (line ≡ length ns + 1) × NodeComes rest × (length ns ≡ max-nodes)
+Stops room ns rest (reading.NoPlace line) = (line ≡ length ns + 1) × NodeComes rest × (length ns < max-nodes) × (length ns ≡ room)
 
 -- what reading a text into a buffer answers: the number of nodes, or the first fault
 abbrev pub TextRead : List ℕ → List Node → List Node → Result ℕ ReadFault → Type 0
