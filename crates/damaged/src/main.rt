@@ -13,13 +13,13 @@
 //   text    \t is TAB, \n byte 10, \r byte 13, \0 byte 0 and \\ a backslash.
 //
 // Where there is no fault, what is written must be the text that was read, byte for byte.
-use node::CheckFaultFault;
+use node::CheckFaultReport;
 use node::Layer;
 use node::MAX_NODES;
 use node::Node;
 use node::check;
-use plan_text::ReadFaultFault;
-use plan_text::WriteFaultFault;
+use plan_text::ReadFaultReport;
+use plan_text::WriteFaultReport;
 use plan_text::read;
 use plan_text::write;
 use std::alloc::AllocError;

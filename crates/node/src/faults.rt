@@ -42,7 +42,7 @@ impl NodeFault {
     }
 }
 
-pub impl Fault for CheckFault as CheckFaultFault {
+pub impl Fault for CheckFault as CheckFaultReport {
     ghost told = { check-fault };
 
     fn report(&self) -> Report {

@@ -10,7 +10,7 @@ mod stack;
 mod verdict;
 
 pub use faults::CheckFault;
-pub use faults::CheckFaultFault;
+pub use faults::CheckFaultReport;
 pub use faults::NodeFault;
 pub use limits::MAX_DEPTH;
 pub use limits::MAX_KIND;

@@ -1,7 +1,7 @@
 // Why a plan text is not read or not written.
 ghost use Rattle.plan_text.specs.Faults.{read-fault, trip-fault, write-fault};
 use node::CheckFault;
-use node::CheckFaultFault;
+use node::CheckFaultReport;
 use text::Fault;
 use text::LineFault;
 use text::Report;
@@ -37,7 +37,7 @@ pub enum TripFault {
     Write(WriteFault),
 }
 
-pub impl Fault for ReadFault as ReadFaultFault {
+pub impl Fault for ReadFault as ReadFaultReport {
     ghost told = { read-fault };
 
     fn report(&self) -> Report {
@@ -62,7 +62,7 @@ pub impl Fault for ReadFault as ReadFaultFault {
     }
 }
 
-pub impl Fault for WriteFault as WriteFaultFault {
+pub impl Fault for WriteFault as WriteFaultReport {
     ghost told = { write-fault };
 
     fn report(&self) -> Report {
@@ -76,7 +76,7 @@ pub impl Fault for WriteFault as WriteFaultFault {
     }
 }
 
-pub impl Fault for TripFault as TripFaultFault {
+pub impl Fault for TripFault as TripFaultReport {
     ghost told = { trip-fault };
 
     fn report(&self) -> Report {

@@ -5,11 +5,11 @@ mod trips;
 mod writer;
 
 pub use faults::ReadFault;
-pub use faults::ReadFaultFault;
+pub use faults::ReadFaultReport;
 pub use faults::TripFault;
-pub use faults::TripFaultFault;
+pub use faults::TripFaultReport;
 pub use faults::WriteFault;
-pub use faults::WriteFaultFault;
+pub use faults::WriteFaultReport;
 pub use reader::read;
 pub use trips::reread;
 pub use trips::rewrite;

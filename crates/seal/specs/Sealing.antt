@@ -20,19 +20,22 @@ abbrev pub top-letter : Option Top → Option Letter
 top-letter (Some t) = Some (t .shape .letter)
 top-letter None = None
 
--- the top's numbers; the empty plan has 0 for each
+-- the top's number of read ports; the empty plan has 0
 abbrev pub top-reads : Option Top → ℕ
 top-reads (Some t) = t .shape .reads
 top-reads None = 0
 
+-- the top's number of write ports; the empty plan has 0
 abbrev pub top-writes : Option Top → ℕ
 top-writes (Some t) = t .shape .writes
 top-writes None = 0
 
+-- the top's depth; the empty plan has 0
 abbrev pub top-depth : Option Top → ℕ
 top-depth (Some t) = t .shape .depth
 top-depth None = 0
 
+-- the number of macros; the empty plan has 0
 abbrev pub top-macros : Option Top → ℕ
 top-macros (Some t) = t .macros
 top-macros None = 0

@@ -1,15 +1,15 @@
 // A tour of the composer: a design from its plan text to its sealed plan, step by step.
 //
 // It reads plan.txt in the current folder.
-use node::CheckFaultFault;
+use node::CheckFaultReport;
 use node::Layer;
 use node::MAX_NODES;
 use node::Node;
 use node::NodePartialEq;
 use node::check;
 use node_line::render;
-use plan_text::ReadFaultFault;
-use plan_text::TripFaultFault;
+use plan_text::ReadFaultReport;
+use plan_text::TripFaultReport;
 use plan_text::read;
 use plan_text::reread;
 use plan_text::rewrite;
