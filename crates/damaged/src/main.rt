@@ -22,7 +22,6 @@ use plan_text::ReadFaultReport;
 use plan_text::WriteFaultReport;
 use plan_text::read;
 use plan_text::write;
-use std::alloc::AllocError;
 use std::alloc::Global;
 use std::error::AnyError;
 use std::fmt;
@@ -141,60 +140,56 @@ fn escape(letter: u8) -> Option<u8> {
     }
 }
 
-// The bytes that the last field of a line stands for.
-fn unescaped(heap: Global, field: &[u8]) -> Result<Vec<u8>, AnyError> {
+// The bytes that the last field of a line stands for; none where a backslash or a TAB stands amiss.
+fn unescaped(heap: Global, field: &[u8]) -> Option<Vec<u8>> {
     let mut text = Vec::new(heap);
     let mut is_escape = false;
     for b in field {
-        if is_escape {
-            let byte = escape(*b).ok_or("an unknown letter after a backslash")?;
-            text.push(byte)?;
-            is_escape = false;
-        } else if *b == b'\\' {
-            is_escape = true;
-        } else if *b == b'\t' {
-            return Err("more than six fields".into());
-        } else {
-            text.push(*b)?;
+        match (is_escape, *b) {
+            (true, letter) => {
+                text.push(escape(letter)?).ok()?;
+                is_escape = false;
+            }
+            (false, b'\\') => is_escape = true,
+            (false, b'\t') => return None,
+            (false, byte) => text.push(byte).ok()?,
         }
     }
-    if is_escape {
-        return Err("a backslash at the end".into());
-    }
-    Ok(text)
+    if is_escape { None } else { Some(text) }
 }
 
 // A text that stands several times, one after another.
-fn repeated(heap: Global, text: &[u8], times: usize) -> Result<Vec<u8>, AllocError> {
+fn repeated(heap: Global, text: &[u8], times: usize) -> Option<Vec<u8>> {
     let mut all = Vec::new(heap);
     for _ in 0..times {
-        all.extend_from_slice(text)?;
+        all.extend_from_slice(text).ok()?;
     }
-    Ok(all)
+    Some(all)
 }
 
 // The first field of a line, a number, and what follows its TAB.
-fn count_field(line: &[u8]) -> Result<(usize, &[u8]), AnyError> {
-    let (n, rest) = number_field(line).ok_or("a field that is no number")?;
-    Ok((usize::try_from(n)?, rest))
+fn count_field(line: &[u8]) -> Option<(usize, &[u8])> {
+    let (n, rest) = number_field(line)?;
+    Some((usize::try_from(n).ok()?, rest))
 }
 
-// The case that a line of the table writes.
-fn case_of(heap: Global, line: &[u8]) -> Result<Case, AnyError> {
-    let (word, rest) = cut(line, b'\t').ok_or("a line without a TAB")?;
-    let part = part_of(word).ok_or("an unknown part")?;
+// The case that a line of the table writes, or none where it writes no case.
+fn case_of(heap: Global, line: &[u8]) -> Option<Case> {
+    let (word, rest) = cut(line, b'\t')?;
+    let part = part_of(word)?;
     let (number, rest) = count_field(rest)?;
     let (place, rest) = count_field(rest)?;
     let (size, rest) = count_field(rest)?;
     let (times, rest) = count_field(rest)?;
     let text = unescaped(heap, rest)?;
-    let number = u8::try_from(number)?;
-    let expected = expected_of(part, number, place).ok_or("a fault that cannot come")?;
-    Ok(Case {
+    let number = u8::try_from(number).ok()?;
+    let expected = expected_of(part, number, place)?;
+    let text = repeated(heap, text.as_slice(), times)?;
+    Some(Case {
         part,
         expected,
         size,
-        text: repeated(heap, text.as_slice(), times)?,
+        text,
     })
 }
 
@@ -252,12 +247,9 @@ fn tried(heap: Global, case: &Case) -> Result<Answer, AnyError> {
 
 // Tries the case of one line, and says so if its answer is wrong.
 fn judged(rt: &LibcRuntime, place: usize, line: &[u8]) -> Result<Verdict, AnyError> {
-    let case = match case_of(rt.alloc(), line) {
-        Ok(case) => case,
-        Err(error) => {
-            println!(rt, "line {place} is no case")?;
-            return Err(error);
-        }
+    let Some(case) = case_of(rt.alloc(), line) else {
+        println!(rt, "line {place} is no case")?;
+        return Err("a line is no case".into());
     };
     let came = tried(rt.alloc(), &case)?;
     let expected = case.expected;
