@@ -27,8 +27,6 @@ pub use node::Node;
 pub use node::NodeEq;
 pub use node::NodePartialEq;
 pub use shape::Shape;
-pub use shape::ShapeEq;
-pub use shape::ShapePartialEq;
 pub use verdict::Top;
 pub use verdict::check;
 pub use verdict::macros;

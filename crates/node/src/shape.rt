@@ -6,11 +6,10 @@ use crate::limits::MAX_MARKS;
 use crate::limits::MAX_PORTS;
 use crate::node::Layer;
 use word::Letter;
-use word::LetterEq;
 use word::LetterPartialEq;
 
 /// A memory's letter, its numbers of read and write ports, and its depth.
-#[derive(Clone, Copy, PartialEq, Eq)]
+#[derive(Clone, Copy)]
 pub struct Shape {
     pub letter: Letter,
     pub reads: u8,

@@ -26,6 +26,7 @@ struct Fields {
     depth: u128,
 }
 
+// The layer with this name.
 fn layer_of(word: &[u8]) -> Option<Layer>
     ensures { λ r. ⌜ LayerRead (now (word .entry)) r ⌝ }
 {
@@ -39,6 +40,7 @@ fn layer_of(word: &[u8]) -> Option<Layer>
     }
 }
 
+// The letter that a byte writes.
 fn letter_of(byte: u8) -> Option<Letter>
     ensures { λ r. ⌜ LetterRead byte r ⌝ }
 {
@@ -97,6 +99,7 @@ fn within(fields: Fields) -> Option<Macro>
     if m.is_in_range() { Some(m) } else { None }
 }
 
+// Whether a line's first field is that of a macro.
 fn is_macro(word: &[u8]) -> bool
     ensures { λ r. ⌜ Decides r (now (word .entry) ≡ codes "macro") ⌝ }
 {
@@ -126,6 +129,7 @@ pub fn parse(line: &[u8]) -> Result<Node, LineFault>
     }
 }
 
+// The byte that writes a letter.
 fn letter_byte(letter: Letter) -> u8
     ensures { λ r. ⌜ r ≡ letter-byte letter ⌝ }
 {
@@ -137,6 +141,7 @@ fn letter_byte(letter: Letter) -> u8
     }
 }
 
+// The name of a layer.
 fn layer_name(layer: Layer) -> &'static [u8]
     ensures { λ r. ⌜ now r ≡ layer-name layer ⌝ }
 {

@@ -2,17 +2,19 @@
 use mathlib.Core.Path.{_≡_}
 use mathlib.Core.List.{List, []}
 use Prim.Native.Nat.{ℕ}
+use Rattle.std.specs.declared.result.Result.the-variants.{Ok}
 use Rattle.std.specs.declared.option.Option.{Option}
 use Rattle.std.specs.declared.option.Option.the-variants.{Some, None}
 use Rattle.word.specs.declared.Letter.{Letter}
 use Rattle.node.specs.declared.node.Node.{Node}
 use Rattle.node.specs.declared.shape.Shape.{Shape}
 use Rattle.node.specs.declared.verdict.Top.{Top}
-use Rattle.node.specs.Plans.{Passes, macro-count}
+use Rattle.node.specs.Plans.{Passes, Checked}
 
--- nodes that pass keep their place and have a top; others give the empty plan, with no nodes and no top
+-- nodes that pass are kept, with the top that the check answers; others give the empty plan, with no
+-- nodes and no top
 abbrev pub Seals : List Node → List Node → Option Top → Type 0
-Seals ns kept (Some t) = (kept ≡ ns) × Passes ns (t .shape) × (t .macros ≡ macro-count ns)
+Seals ns kept (Some t) = (kept ≡ ns) × Checked ns (Ok t)
 Seals ns kept None = (kept ≡ []) × ((s : Shape) → Passes ns s → ⊥)
 
 -- the top's letter; the empty plan has none

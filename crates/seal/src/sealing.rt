@@ -92,6 +92,7 @@ impl<'a> Sealed<'a> {
             None => 0,
         }
     }
+
     /// The shape of the memory that ends with the node `last`, counted from 0, or none.
     pub fn shape_at(&self, last: usize) -> Option<Shape>
         ensures { λ r. ⌜ ShapeAt (now (now (self .entry) .nodes)) last r ⌝ }

@@ -4,7 +4,7 @@ ghost use Rattle.text.specs.declared.faults.Report.{Report};
 ghost use Rattle.text.specs.Faults.{line-fault};
 
 /// What is printed of a fault: its number, and the line or node where it lies.
-#[derive(Clone, Copy, PartialEq, Eq)]
+#[derive(Clone, Copy)]
 pub struct Report {
     pub number: u8,
     pub place: usize,

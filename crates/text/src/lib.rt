@@ -10,8 +10,6 @@ mod numbers;
 pub use faults::Fault;
 pub use faults::LineFault;
 pub use faults::Report;
-pub use faults::ReportEq;
-pub use faults::ReportPartialEq;
 pub use fields::cut;
 pub use fields::number_field;
 pub use line::LineBuffer;

@@ -29,6 +29,7 @@ const DAMAGED: &[u8] = b"macro\t1\tH\t1\t1\t64\nmacro\t1\tH\t1\t1\t064\nwidth\n"
 // Orders have no sum, so no exclusive-or layer stands over them.
 const REFUSED: &[u8] = b"macro\t1\tO\t2\t1\t64\nmacro\t1\tO\t2\t1\t64\nxor\n";
 
+// A fault, by its number and place.
 fn show_fault<F: Fault>(rt: &LibcRuntime, what: &str, fault: &F) -> Result<(), AnyError> {
     let report = fault.report();
     let number = report.number;
@@ -37,7 +38,7 @@ fn show_fault<F: Fault>(rt: &LibcRuntime, what: &str, fault: &F) -> Result<(), A
     Ok(())
 }
 
-// A node's line without its end, as text.
+// A node, by its line.
 fn show_node(rt: &LibcRuntime, i: usize, node: &Node) -> Result<(), AnyError> {
     let line = render(node);
     let text = std::str::from_utf8(line.as_bytes())?;
@@ -45,6 +46,7 @@ fn show_node(rt: &LibcRuntime, i: usize, node: &Node) -> Result<(), AnyError> {
     Ok(())
 }
 
+// The shape of the memory that ends with a node.
 fn show_shape(rt: &LibcRuntime, plan: &Sealed, i: usize) -> Result<(), AnyError> {
     if let Some(shape) = plan.shape_at(i) {
         let letter = shape.letter;
@@ -144,6 +146,7 @@ fn show_design(rt: &LibcRuntime, name: &str, text: &[u8]) -> Result<(), AnyError
     show_plan(rt, draft.seal())
 }
 
+// The sample design, and two that do not come to a plan.
 fn tour(rt: &LibcRuntime) -> Result<(), AnyError> {
     let Ok(text) = fs::read(rt, FILE) else {
         return Err("cannot read plan.txt".into());
