@@ -2,6 +2,8 @@
 //
 // A client opens a cycle and gets a ticket. It shows the ticket to read and to write, and the edge takes the
 // ticket back. A ticket that is let go otherwise is refused when the program is built: no open cycle is lost.
+#![tactic(auto)]
+
 ghost use Rattle.std.specs.Prelude.{◌≡◌};
 ghost use Rattle.memory.specs.Calls.{Read, Write, Edged};
 ghost use Rattle.cycle.specs.Tickets.{opened};

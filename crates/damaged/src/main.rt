@@ -13,6 +13,8 @@
 //   text    \t is TAB, \n byte 10, \r byte 13, \0 byte 0 and \\ a backslash.
 //
 // Where there is no fault, what is written must be the text that was read, byte for byte.
+#![tactic(auto)]
+
 use anyhow::anyhow;
 use node::{Layer, MAX_NODES, Node, check};
 use plan_text::{read, write};

@@ -2,6 +2,8 @@
 //
 // The addresses below A's depth are A's, and those from there on are B's. Each port serves one call in a
 // cycle, in the half that has the address.
+#![tactic(auto)]
+
 ghost use Rattle.memory.specs.Meaning.{Cleared, SameShape};
 ghost use Rattle.memory.specs.Calls.{Read, Write, Edged};
 ghost use Rattle.node.specs.declared.node.Layer.TheVariants.{Depth as own};

@@ -1,4 +1,6 @@
 // The line that a program prints of a fault: `fault`, the part that it lies in, its number and its place.
+#![tactic(auto)]
+
 ghost use Rattle.std.specs.Prelude.{◌≡◌, [], ◌∷◌, ◌++◌};
 ghost use Rattle.text.specs.Lines.{line_text};
 ghost use Rattle.fault_line.specs.Lines.{fault_text, part_name};

@@ -2,6 +2,8 @@
 //
 // A layer owns two memories, its halves A and B. It takes its numbers from them once, and keeps them in a
 // `Joint`. The rows of the five layers are the check's own: a pile is made exactly where its plan passes.
+#![tactic(auto)]
+
 mod joining;
 mod sizes;
 mod verdict;

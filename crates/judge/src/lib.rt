@@ -1,4 +1,6 @@
 // A plan text judged: read first, and then checked. Every program judges its plan so.
+#![tactic(auto)]
+
 ghost use Rattle.judge.specs.Judging.{Judged, plan_fault};
 
 use node::{CheckFault, Node, check};

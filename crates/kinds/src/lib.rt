@@ -1,5 +1,7 @@
 // The four word kinds that a memory may hold: 32 bits, 64 bits, a stereo sample and an order.
 // All have codes, and all but the orders are groups.
+#![tactic(auto)]
+
 mod bits32;
 mod bits32_word;
 mod bits64;

@@ -2,6 +2,8 @@
 //
 // A word waits in the half whose port it is written through. A mark for each address names the half that was
 // written last there, and a read takes the word of that half.
+#![tactic(auto)]
+
 ghost use Rattle.std.specs.Prelude.{◌≡◌, ◌<◌, ◌≤◌, length, Ok, refl};
 ghost use Rattle.memory.specs.Meaning.{Cleared, SameShape};
 ghost use Rattle.memory.specs.Calls.{MayWrite, Read, Write, Edged};

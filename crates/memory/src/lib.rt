@@ -4,6 +4,8 @@
 // macros and layers it is made. Within a cycle each port serves one call; the edge ends the cycle. What
 // each call answers and leaves stands in the contracts of the trait, and everything above a memory is
 // proved from them alone.
+#![tactic(auto)]
+
 mod memory;
 mod refusal;
 

@@ -1,6 +1,8 @@
 // The program `netlist`: reads plan.txt in the current folder, and prints the netlist of its plan.
 //
 // A fault prints its line, and ends the program with status 1.
+#![tactic(auto)]
+
 use anyhow::anyhow;
 use fault_line::{Part, render};
 use judge::judge;

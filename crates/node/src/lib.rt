@@ -2,6 +2,8 @@
 //
 // A node is a macro of the chip or a layer over two memories. The nodes of a pile are those of its
 // first half, those of its second, and its own layer.
+#![tactic(auto)]
+
 mod faults;
 mod limits;
 mod node;

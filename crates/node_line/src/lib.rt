@@ -1,4 +1,6 @@
 // The line of a node in a plan text: `macro`, kind, letter, reads, writes and depth, or a layer's name.
+#![tactic(auto)]
+
 ghost use Rattle.std.specs.Prelude.{◌≡◌, [], ◌∷◌, ◌++◌, codes, Decides};
 ghost use Rattle.text.specs.Lines.{line_text};
 ghost use Rattle.node_line.specs.Lines.{letter_byte, layer_name, line_of};

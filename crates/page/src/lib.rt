@@ -2,6 +2,8 @@
 //
 // The same lines measure a text and write it: in a buffer without room they are only counted. So a
 // writer goes through its lines twice, and touches the buffer only where the whole text has room.
+#![tactic(auto)]
+
 ghost use Rattle.page.specs.Pages.{Appended, Within};
 
 use text::put;

@@ -3,6 +3,8 @@
 //
 // The plan is judged first, then the stock, then the listing. A fault prints its line, and ends the program with
 // status 1.
+#![tactic(auto)]
+
 use anyhow::anyhow;
 use fault_line::{Part, render};
 use judge::judge;

@@ -1,4 +1,6 @@
 // Plan texts: one line for each node. A reader, a writer, and the two round trips between them.
+#![tactic(auto)]
+
 mod faults;
 mod reader;
 mod trips;

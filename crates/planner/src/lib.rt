@@ -1,4 +1,6 @@
 // The planner: a sealed plan against a chip's stock, and the listing that tells what it needs.
+#![tactic(auto)]
+
 mod faults;
 mod lines;
 mod listing;

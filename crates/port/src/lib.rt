@@ -1,5 +1,7 @@
 // The write port of a macro, a state machine of two states and two events. The word of a port that
 // holds an address waits in a latch of the macro.
+#![tactic(auto)]
+
 ghost use Rattle.std.specs.Prelude.{◌≡◌};
 ghost use Rattle.port.specs.Ports.{stepped, held};
 

@@ -1,6 +1,8 @@
 // The replicate layer: two memories of the same words, with the read ports of both.
 //
 // Every write goes to both halves, so that each read port has a copy of its own to read.
+#![tactic(auto)]
+
 ghost use Rattle.std.specs.Prelude.{◌≡◌, refl};
 ghost use Rattle.memory.specs.Meaning.{Cleared, SameShape};
 ghost use Rattle.memory.specs.Calls.{Read, Write, Edged};

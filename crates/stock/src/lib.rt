@@ -1,5 +1,7 @@
 // A chip's stock: how many macros of each kind it has. A reader of stock texts, and the comparison of
 // a plan's needs with a stock.
+#![tactic(auto)]
+
 mod faults;
 mod line;
 mod needs;

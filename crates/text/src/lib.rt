@@ -2,6 +2,8 @@
 //
 // A text is lines that end with byte 10, each of fields that are parted by one TAB. Here are the
 // cuts into lines and fields, the numerals, the faults of a line, and the writing of lines.
+#![tactic(auto)]
+
 mod faults;
 mod fields;
 mod line;

@@ -1,6 +1,8 @@
 // A tour of the composer: a design from its plan text to its sealed plan, step by step.
 //
 // It reads plan.txt in the current folder.
+#![tactic(auto)]
+
 use anyhow::anyhow;
 use node::{Layer, MAX_NODES, Node, check};
 use node_line::render;

@@ -1,6 +1,8 @@
 // The width layer: two memories of 32-bit words side by side make one of 64-bit words.
 //
 // The low half of each word is in A, the high half in B, and every call goes to both.
+#![tactic(auto)]
+
 ghost use Rattle.word.specs.declared.Letter.TheVariants.{H as letter_h, H};
 ghost use Rattle.kinds.specs.Bits.{bits32_zero, bits64_zero};
 ghost use Rattle.memory.specs.Meaning.{Cleared, SameShape};

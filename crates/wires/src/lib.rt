@@ -2,6 +2,8 @@
 //
 // A port of a layer is wired to one port of a half, or to two. Nodes are numbered from 0; a plan has so few
 // that a byte numbers them, and so do ports.
+#![tactic(auto)]
+
 mod lines;
 mod wire;
 

@@ -2,6 +2,8 @@
 //
 // The writer goes through the nodes twice, by the same functions: first without a buffer, to measure the
 // text, then, where it has room, with the lent one.
+#![tactic(auto)]
+
 mod drawing;
 mod faults;
 mod progress;

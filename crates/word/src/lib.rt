@@ -2,6 +2,8 @@
 //
 // A kind says its letter, its zero and a code for each word. Code that is generic over `Word` knows
 // no more of a word than its code, so that anybody can add a kind.
+#![tactic(auto)]
+
 ghost use Rattle.std.specs.Prelude.{◌≡◌, ℕ, ◌≤◌, true, MatchOption, ◌≢◌};
 ghost use Rattle.word.specs.declared.Letter.{Letter};
 ghost use Rattle.word.specs.Letters.{last_code, summed};

@@ -2,6 +2,8 @@
 //
 // A write goes to one half, which holds the difference to the word of the other. To recover that word, each half
 // keeps a read port for every write port of the other; a read is served by both halves, through the ports left.
+#![tactic(auto)]
+
 ghost use Rattle.memory.specs.Meaning.{Cleared, SameShape};
 ghost use Rattle.memory.specs.Calls.{Read, Write, Edged};
 ghost use Rattle.node.specs.declared.node.Layer.TheVariants.{Xor as own};
