@@ -7,8 +7,8 @@ use Rattle.node.proofs.Sole.{refused_none}
 use Rattle.node.proofs.Stacking.{some_held, top_held, part_front}
 use Rattle.node.proofs.verdict.shape_at.Goals as goal
 
-pub overflow-sub-result : goal.overflow-sub-result
-overflow-sub-result c =
+pub overflow_sub-result : goal.overflow_sub-result
+overflow_sub-result c =
     let st = c.in-Ok.stack in
     let ns = c.args.nodes.now in
     let long = ap length (part_front (c.args.last + 1) ns) ∙ length-take-le (c.args.last + 1) ns (omega (arith, c.if-last-nodes.false)) in
@@ -23,7 +23,7 @@ returns-in-Ok c =
     let long = ap length same ∙ length-take-le (c.args.last + 1) ns (omega (arith, c.if-last-nodes.false)) in
     let plans = subst (λ (qs : List Node). Plans qs (held st)) same told.0 in
     let some = some_held st.shapes st.count told.0 (omega (arith, long)) in
-    (c.if-last-nodes.false, c.if-last-ge-MAX-NODES.false, (_, top_held st.shapes st.count _ plans some (omega (arith, told.1, told.2, long, c.if-last-ge-MAX-NODES.false))))
+    (c.if-last-nodes.false, c.if-last-ge-MAX_NODES.false, (_, top_held st.shapes st.count _ plans some (omega (arith, told.1, told.2, long, c.if-last-ge-MAX_NODES.false))))
 
 pub returns-in-Err : goal.returns-in-Err
 returns-in-Err c =
