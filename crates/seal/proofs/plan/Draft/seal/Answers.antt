@@ -2,11 +2,11 @@ use Rattle.std.proofs.Common.{refl}
 use Rattle.seal.proofs.Refusals.{refused}
 use Rattle.seal.proofs.plan.Draft.seal.Goals as goal
 
-pub invariant-of-result : goal.invariant-of-result
-invariant-of-result c = (∣ refl ∣₁, tt)
+pub invariant_of-result : goal.invariant_of-result
+invariant_of-result c = (∣ refl ∣₁, tt)
 
-pub returns-in-default : goal.returns-in-default
-returns-in-default c = (refl, refused c.args.self.nodes.now _ c.in-default.ensures.sole)
+pub returns-in_default : goal.returns-in_default
+returns-in_default c = (refl, refused c.args.self.nodes.now _ c.in_default.ensures.sole)
 
-pub invariant-of-result-2 : goal.invariant-of-result-2
-invariant-of-result-2 c = (∣ c.in-Ok.ensures.says ∣₁, tt)
+pub invariant_of-result-2 : goal.invariant_of-result-2
+invariant_of-result-2 c = (∣ c.in-Ok.ensures.says ∣₁, tt)
