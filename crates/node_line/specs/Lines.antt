@@ -6,7 +6,6 @@ use Rattle.text.specs.Fields.{tabbed}
 use Rattle.text.specs.Numbers.{Canonical}
 use Rattle.node.specs.declared.node.Layer.{Layer}
 use Rattle.node.specs.declared.node.Layer.TheVariants.{Replicate, Lvt, Xor, Depth, Width}
-use Rattle.node.specs.declared.node.Macro.{Macro}
 use Rattle.node.specs.declared.node.Node.{Node}
 use Rattle.node.specs.declared.node.Node.TheVariants as node
 use Rattle.node.specs.Nodes.{InRange}
