@@ -10,10 +10,10 @@ use Rattle.regfile.specs.Limits.{write_ports}
 use Rattle.regfile.proofs.Stores.{store_low, store_apart}
 use Rattle.regfile.proofs.regfile_memory.RegFileMemory.write.Goals as goal
 
-pub invariant-of-self : goal.invariant-of-self
-invariant-of-self c =
+pub invariant_of-self : goal.invariant_of-self
+invariant_of-self c =
     let old = c.args.self.now in
-    let may = c.in-ok-may-write.ensures tt in
+    let may = c.in_ok-may_write.ensures tt in
     let p = c.args.port in
     let x = c.args.address in
     let here : p < write_ports = grind (arith, nat_tests) in
