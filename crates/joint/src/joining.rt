@@ -66,7 +66,7 @@ impl Half {
 // in order, and is taken as the largest that it holds.
 fn measured<M: Memory>(memory: &M) -> Option<Half>
     ensures live { Live result }
-    ensures says { M.Memory.ordered memory.now → HalfOf Word-as-Word.kind (M.Memory.meaning memory.now) result }
+    ensures says { M.Memory.ordered memory.now → HalfOf M.Word.Word.kind (M.Memory.meaning memory.now) result }
 {
     let depth = memory.depth();
     if depth == 0 {

@@ -1,7 +1,7 @@
 -- The text of nodes in range determines the nodes: line by line there is one node to read.
 use Rattle.std.proofs.Common.{◌≡◌, ℕ, ◌^◌, ◌<◌, cond, eqb, ◌⊎◌, List, [], ◌∷◌, ◌++◌, get_or, codes, decimal, sym, refl, ap, ◌∙◌, inl, inr, append_assoc, arith}
 use Rattle.std.specs.Str.Iter.{LacksByte}
-use Rattle.std.specs.List.{AllByRecursion as All}
+use Rattle.std.specs.List.{AllByRecursion}
 use Rattle.std.proofs.lemmas.Fmt.{decimal_injective}
 use Rattle.std.proofs.ByRecursion.{All-append, All-from_get_or}
 use Rattle.std.proofs.lemmas.Str.Parse.{not_in_digits}
@@ -92,7 +92,7 @@ abbrev pub GoesOn : List Node → List ℕ → List Node → List ℕ → Type 0
 GoesOn ns rest ms rest' = (ks : List Node) × (ns ≡ ms ++ ks) × (rest' ≡ text_of ks ++ rest)
 
 -- of two ways to read nodes off the front of a text, one goes on from the other
-pub fronts : (ns ms : List Node) (rest rest' : List ℕ) → All NodeInRange ns → All NodeInRange ms → text_of ns ++ rest ≡ text_of ms ++ rest' → GoesOn ns rest ms rest' ⊎ GoesOn ms rest' ns rest
+pub fronts : (ns ms : List Node) (rest rest' : List ℕ) → AllByRecursion NodeInRange ns → AllByRecursion NodeInRange ms → text_of ns ++ rest ≡ text_of ms ++ rest' → GoesOn ns rest ms rest' ⊎ GoesOn ms rest' ns rest
 fronts ns [] rest rest' h k e = inl (ns, refl, sym e)
 fronts [] (m ∷ ms) rest rest' h k e = inr (m ∷ ms, refl, e)
 fronts (n ∷ ns) (m ∷ ms) rest rest' h k e =

@@ -1,6 +1,6 @@
 -- What is read of a text that was written, and written of a text that was read.
 use Rattle.std.proofs.Common.{◌≡◌, ℕ, ◌+◌, ◌-◌, ◌*◌, ◌<◌, ◌≤◌, List, [], ◌∷◌, ◌++◌, length, get_or, take, drop, Ok, Err, Result, sym, refl, ap, ◌∙◌, subst, inr, ⊎_elim, append-nil, arith, length-append, take-append-drop}
-use Rattle.std.specs.List.{AllByRecursion as All}
+use Rattle.std.specs.List.{AllByRecursion}
 use Rattle.std.proofs.ByRecursion.{All-append, All-drop, All-take}
 use Rattle.std.proofs.lemmas.List.{drop_all, drop_more, length-take-le, take_at}
 use Rattle.std.proofs.lemmas.Bool.{cases_lt}
@@ -25,13 +25,13 @@ use Rattle.plan_text.proofs.Fronts.{line_lacks, text_cons}
 use Rattle.plan_text.proofs.Lines.{text_append}
 
 -- the nodes of a plan are in range
-plan_ranged : {ns : List Node} {s : Shape} → Plan ns s → All NodeInRange ns
+plan_ranged : {ns : List Node} {s : Shape} → Plan ns s → AllByRecursion NodeInRange ns
 plan_ranged (single h) = (h, tt)
 plan_ranged (layered l {p = p} {q = q} first second fit) =
     All-append NodeInRange p (q ++ (node.Layer l ∷ [])) (plan_ranged first) (All-append NodeInRange q (node.Layer l ∷ []) (plan_ranged second) (tt, tt))
 
 -- a text has at most 64 bytes for each node
-text_bound : (ns : List Node) → All NodeInRange ns → length (text_of ns) ≤ 64 * length ns
+text_bound : (ns : List Node) → AllByRecursion NodeInRange ns → length (text_of ns) ≤ 64 * length ns
 text_bound [] h = omega arith
 text_bound (n ∷ ns) h = omega (arith, line_short n h.0, text_bound ns h.1, length-append (line_of n ++ (10 ∷ [])) (text_of ns))
 
@@ -61,7 +61,7 @@ read_part ns old d passing short =
     let long = length-take-le k ns (omega arith) in
     let ranged = plan_ranged passing.1.1 in
     let next = drop_more ns k d short in
-    let comes = subst (λ (t : List Node). NodeComes (text_of t)) (sym next) (node_comes (get_or ns k d) (drop (k + 1) ns) (subst (All NodeInRange) next (All-drop NodeInRange k ns ranged)).0) in
+    let comes = subst (λ (t : List Node). NodeComes (text_of t)) (sym next) (node_comes (get_or ns k d) (drop (k + 1) ns) (subst (AllByRecursion NodeInRange) next (All-drop NodeInRange k ns ranged)).0) in
     inr (
       passing_short ns passing,
       (

@@ -1,7 +1,7 @@
 -- Reading has one answer to any text and buffer: the nodes that are read leave no choice, nor does what comes after them.
 use Rattle.std.proofs.Common.{◌≡◌, ℕ, ◌+◌, ◌<◌, ◌≤◌, List, [], ◌∷◌, ◌++◌, length, drop, Ok, Err, Result, sym, refl, ap, ◌∙◌, subst, inl, inr, ⊎_elim, append-nil, arith, length-append}
 use Rattle.std.specs.Str.Iter.{LacksByte}
-use Rattle.std.specs.List.{AllByRecursion as All}
+use Rattle.std.specs.List.{AllByRecursion}
 use Rattle.std.proofs.ByRecursion.{All-drop}
 use Rattle.std.proofs.lemmas.List.Prefix.{front_rest}
 use Rattle.std.proofs.lemmas.Bool.{cases_lt}
@@ -143,7 +143,7 @@ goes_no_further {old = old} a b [] is left =
       ends_sole (rw (same, next) at b.ends) a.ends,
     )
 goes_no_further a b (k ∷ ks) is left =
-    let h : NodeInRange k = (subst (All NodeInRange) (front_rest b.ns a.ns (k ∷ ks) is) (All-drop NodeInRange (length a.ns) b.ns b.front.ranged)).0 in
+    let h : NodeInRange k = (subst (AllByRecursion NodeInRange) (front_rest b.ns a.ns (k ∷ ks) is) (All-drop NodeInRange (length a.ns) b.ns b.front.ranged)).0 in
     let comes : NodeComes a.rest = (line_of k, ((text_of ks ++ b.rest, left ∙ text_cons k ks b.rest), line_lacks k h), (k, h, refl)) in
     let len = ap length is ∙ length-append a.ns (k ∷ ks) in
     absurd (has_place (rw (next_sole a.rest a.next good a.comes comes) at a.ends) (omega (arith, b.front.few)) (omega (arith, b.front.fits)))

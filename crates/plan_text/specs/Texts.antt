@@ -1,6 +1,6 @@
 -- The text of nodes, and what a reader of any text answers.
 use Rattle.std.specs.Prelude.{◌≡◌, ℕ, ◌+◌, ◌<◌, ◌≤◌, ◌⊎◌, List, [], ◌∷◌, ◌++◌, length, drop, Ok, Err, Result}
-use Rattle.std.specs.List.{flat_map, AllByRecursion as All}
+use Rattle.std.specs.List.{flat_map, AllByRecursion}
 use Rattle.std.specs.Str.Iter.{LacksByte}
 use Rattle.text.specs.declared.faults.LineFault.{LineFault}
 use Rattle.text.specs.declared.faults.LineFault.TheVariants.{Malformed}
@@ -23,7 +23,7 @@ Begins rest line = ((more : List ℕ) × (rest ≡ line ++ (10 ∷ more))) × La
 -- the nodes ns are read off the front of a text, rest is left, and the buffer went from old to new
 pub record Front (text : List ℕ) (old new ns : List Node) (rest : List ℕ) : Type 0 where
   pub split : text ≡ text_of ns ++ rest
-  pub ranged : All NodeInRange ns
+  pub ranged : AllByRecursion NodeInRange ns
   pub few : length ns ≤ max_nodes
   pub fits : length ns ≤ length old
   pub buffer : new ≡ ns ++ drop (length ns) old

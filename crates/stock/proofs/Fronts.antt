@@ -1,7 +1,7 @@
 -- The text of entries in range determines the entries: line by line there is one entry to read.
 use Rattle.std.proofs.Common.{◌≡◌, ℕ, ◌^◌, ◌<◌, ◌⊎◌, List, [], ◌∷◌, ◌++◌, codes, decimal, sym, refl, ◌∙◌, inl, inr, append_assoc, arith}
 use Rattle.std.specs.Str.Iter.{LacksByte}
-use Rattle.std.specs.List.{AllByRecursion as All}
+use Rattle.std.specs.List.{AllByRecursion}
 use Rattle.std.proofs.lemmas.Fmt.{decimal_injective}
 use Rattle.std.proofs.ByRecursion.{All-append, All-from_get_or}
 use Rattle.std.proofs.lemmas.Str.Parse.{not_in_digits}
@@ -44,7 +44,7 @@ abbrev pub GoesOn : List Entry → List ℕ → List Entry → List ℕ → Type
 GoesOn es rest fs rest' = (gs : List Entry) × (es ≡ fs ++ gs) × (rest' ≡ stock_text gs ++ rest)
 
 -- of two ways to read entries off the front of a text, one goes on from the other
-pub fronts : (es fs : List Entry) (rest rest' : List ℕ) → All InRange es → All InRange fs → stock_text es ++ rest ≡ stock_text fs ++ rest' → GoesOn es rest fs rest' ⊎ GoesOn fs rest' es rest
+pub fronts : (es fs : List Entry) (rest rest' : List ℕ) → AllByRecursion InRange es → AllByRecursion InRange fs → stock_text es ++ rest ≡ stock_text fs ++ rest' → GoesOn es rest fs rest' ⊎ GoesOn fs rest' es rest
 fronts es [] rest rest' h k e = inl (es, refl, sym e)
 fronts [] (f ∷ fs) rest rest' h k e = inr (f ∷ fs, refl, e)
 fronts (e ∷ es) (f ∷ fs) rest rest' h k is =

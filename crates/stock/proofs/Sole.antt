@@ -1,7 +1,7 @@
 -- Reading has one answer to any text: the entries that are read leave no choice, nor does what comes after them.
 use Rattle.std.proofs.Common.{◌≡◌, ℕ, ◌+◌, ◌<◌, ◌≤◌, List, [], ◌∷◌, ◌++◌, length, Some, None, Ok, Err, Result, sym, refl, ap, ◌∙◌, subst, inl, inr, ⊎_elim, append-nil, arith, length-append}
 use Rattle.std.specs.Str.Iter.{LacksByte}
-use Rattle.std.specs.List.{AllByRecursion as All}
+use Rattle.std.specs.List.{AllByRecursion}
 use Rattle.std.proofs.ByRecursion.{All-drop}
 use Rattle.std.proofs.lemmas.List.Prefix.{front_rest}
 use Rattle.std.proofs.lemmas.Bool.{cases_lt}
@@ -140,7 +140,7 @@ goes_no_further a b [] is left =
     let next = next_sole a.rest b.next a.next (subst (λ t. Comes t b.next) (sym left) b.comes) a.comes in
     ends_sole a.ends (rw (same, next) at b.ends)
 goes_no_further a b (g ∷ gs) is left =
-    let h : InRange g = (subst (All InRange) (front_rest b.es a.es (g ∷ gs) is) (All-drop InRange (length a.es) b.es b.front.ranged)).0 in
+    let h : InRange g = (subst (AllByRecursion InRange) (front_rest b.es a.es (g ∷ gs) is) (All-drop InRange (length a.es) b.es b.front.ranged)).0 in
     let comes : EntryComes a.rest g = (entry_line g, ((stock_text gs ++ b.rest, left ∙ text_cons g gs b.rest), line_lacks g h), (refl, h)) in
     absurd (goes_on (rw (next_sole a.rest a.next (good g) a.comes comes) at a.ends) (distinct_front a.es g gs (subst Distinct is b.front.distinct)))
 

@@ -1,6 +1,6 @@
 -- Tables by kind, and what entries list.
 use Rattle.std.proofs.Common.{◌≡◌, ℕ, zero, suc, ◌<◌, Bool, true, false, cond, eqb, leb, List, [], ◌∷◌, ◌++◌, length, get_or, set, replicate, Some, None, Option, sym, refl, ap, ◌∙◌, arith}
-use Rattle.std.specs.List.{AllByRecursion as All}
+use Rattle.std.specs.List.{AllByRecursion}
 use Rattle.std.proofs.lemmas.List.{get_or-set_same, get_or-set_other}
 use Rattle.std.proofs.lemmas.Bool.{cond_both, cond-false, eqb-true, eqb-false, leb-false, ne_eqb}
 use Rattle.node.specs.Limits.{max_kind}
@@ -77,13 +77,13 @@ distinct_front (f ∷ es) e fs (fresh, h) =
     ap (λ (b : Bool). cond b (Some f.count) (listed es e.kind)) (differ e.kind f.kind q.0) ∙ distinct_front es e fs h
 
 -- entries in range list no kind beyond the largest
-beyond : (es : List Entry) (k : ℕ) → All InRange es → max_kind < k → listed es k ≡ None
+beyond : (es : List Entry) (k : ℕ) → AllByRecursion InRange es → max_kind < k → listed es k ≡ None
 beyond [] k h out = refl
 beyond (e ∷ es) k (here, h) out =
     cond-false (eqb e.kind k) (Some e.count) (listed es k) (ne_eqb e.kind k (λ same. omega (arith, here.kind_high))) ∙ beyond es k h out
 
 -- a stock whose table lists what entries do has what they count
-pub has_counted : (s : Stock) (es : List Entry) → All InRange es → ((kind : ℕ) → listed_in s kind ≡ listed es kind) → (kind : ℕ) → in_stock s kind ≡ counted es kind
+pub has_counted : (s : Stock) (es : List Entry) → AllByRecursion InRange es → ((kind : ℕ) → listed_in s kind ≡ listed es kind) → (kind : ℕ) → in_stock s kind ≡ counted es kind
 has_counted s es h table k =
     cond_both (leb k max_kind) (or_zero (listed_in s k)) 0 (λ (n : ℕ). n ≡ counted es k)
     (λ _. ap or_zero (table k))

@@ -1,6 +1,6 @@
 -- The text of entries, and what a reader of any text answers.
 use Rattle.std.specs.Prelude.{◌≡◌, ℕ, ◌+◌, ◌<◌, ◌≤◌, ◌⊎◌, List, [], ◌∷◌, ◌++◌, length, Some, Ok, Err, Result}
-use Rattle.std.specs.List.{flat_map, AllByRecursion as All}
+use Rattle.std.specs.List.{flat_map, AllByRecursion}
 use Rattle.std.specs.Str.Iter.{LacksByte}
 use Rattle.text.specs.declared.faults.LineFault.{LineFault}
 use Rattle.text.specs.declared.faults.LineFault.TheVariants.{Malformed}
@@ -24,7 +24,7 @@ Begins rest line = ((more : List ℕ) × (rest ≡ line ++ (10 ∷ more))) × La
 pub record Front (text : List ℕ) (es : List Entry) (rest : List ℕ) : Type 0 where
   pub short : length text ≤ max_bytes
   pub split : text ≡ stock_text es ++ rest
-  pub ranged : All InRange es
+  pub ranged : AllByRecursion InRange es
   pub distinct : Distinct es
 
 -- the first line of rest is refused by itself, or rest is a line without an end

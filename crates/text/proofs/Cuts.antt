@@ -1,6 +1,6 @@
 -- Fields and lines in a list of bytes.
 use Rattle.std.proofs.Common.{◌≡◌, ℕ, ◌+◌, ◌≤◌, Bool, true, not, ◌&&◌, eqb, List, [], ◌∷◌, ◌++◌, length, get_or, drop, sym, refl, ap, ◌∙◌, add-one, arith, length-append}
-use Rattle.std.specs.List.{AllByRecursion as All, between}
+use Rattle.std.specs.List.{AllByRecursion, between}
 use Rattle.std.proofs.ByRecursion.{All-get_or}
 use Rattle.std.proofs.lemmas.Bool.{and_parts, not-true, eqb-false}
 use Rattle.std.specs.Str.Iter.{LacksByte}
@@ -54,7 +54,7 @@ number_off p c q d = same_cut 9 _ _ _ _ (sym p ∙ q) (no_tab c) (no_tab d)
 
 -- no byte is the separator
 abbrev pub Free : ℕ → List ℕ → Type 0
-Free s bs = All (λ b. b ≡ s → ⊥) bs
+Free s bs = AllByRecursion (λ b. b ≡ s → ⊥) bs
 
 abbrev free : ℕ → List ℕ → Bool
 free s [] = true

@@ -90,13 +90,13 @@ impl<A: Memory<Word = Bits32>, B: Memory<Word = Bits32>> Memory for Width<A, B> 
 
     ghost planned = { λ s o.
         let m = meant A.Memory.meaning B.Memory.meaning s in
-        planned_layer own H Thevariants.B s.joint (A.Memory.meaning s.a) (B-as-Memory.meaning s.b) m.word m.used m.port refl
-        (λ live. let k = o live in (A.Memory.planned s.a k.0, B-as-Memory.planned s.b k.1, k.2)) };
+        planned_layer own H Thevariants.B s.joint (A.Memory.meaning s.a) (B.Memory.meaning s.b) m.word m.used m.port refl
+        (λ live. let k = o live in (A.Memory.planned s.a k.0, B.Memory.planned s.b k.1, k.2)) };
 
     fn configure(&mut self)
-        ensures order { InOrder A.Memory.ordered B-as-Memory.ordered A.Memory.meaning B-as-Memory.meaning self.new }
-        ensures clear { Cleared bits64_zero (meant A.Memory.meaning B-as-Memory.meaning self.new) }
-        ensures shape { InOrder A.Memory.ordered B-as-Memory.ordered A.Memory.meaning B-as-Memory.meaning self.old → SameShape (meant A.Memory.meaning B-as-Memory.meaning self.old) (meant A.Memory.meaning B-as-Memory.meaning self.new) }
+        ensures order { InOrder A.Memory.ordered B.Memory.ordered A.Memory.meaning B.Memory.meaning self.new }
+        ensures clear { Cleared bits64_zero (meant A.Memory.meaning B.Memory.meaning self.new) }
+        ensures shape { InOrder A.Memory.ordered B.Memory.ordered A.Memory.meaning B.Memory.meaning self.old → SameShape (meant A.Memory.meaning B.Memory.meaning self.old) (meant A.Memory.meaning B.Memory.meaning self.new) }
         ensures void { Unmoved self.old self.new }
     {
         if self.joint.own.depth > 0 {
@@ -141,8 +141,8 @@ impl<A: Memory<Word = Bits32>, B: Memory<Word = Bits32>> Memory for Width<A, B> 
     }
 
     fn read(&mut self, port: usize, address: usize) -> Result<Bits64, Refusal>
-        ensures order { InOrder A.Memory.ordered B-as-Memory.ordered A.Memory.meaning B-as-Memory.meaning self.old → InOrder A.Memory.ordered B-as-Memory.ordered A.Memory.meaning B-as-Memory.meaning self.new }
-        ensures does { InOrder A.Memory.ordered B-as-Memory.ordered A.Memory.meaning B-as-Memory.meaning self.old → Read (meant A.Memory.meaning B-as-Memory.meaning self.old) port address result (meant A.Memory.meaning B-as-Memory.meaning self.new) }
+        ensures order { InOrder A.Memory.ordered B.Memory.ordered A.Memory.meaning B.Memory.meaning self.old → InOrder A.Memory.ordered B.Memory.ordered A.Memory.meaning B.Memory.meaning self.new }
+        ensures does { InOrder A.Memory.ordered B.Memory.ordered A.Memory.meaning B.Memory.meaning self.old → Read (meant A.Memory.meaning B.Memory.meaning self.old) port address result (meant A.Memory.meaning B.Memory.meaning self.new) }
         ensures void { Unmoved self.old self.new }
     {
         self.may_read(port, address)?;
@@ -152,8 +152,8 @@ impl<A: Memory<Word = Bits32>, B: Memory<Word = Bits32>> Memory for Width<A, B> 
     }
 
     fn write(&mut self, port: usize, address: usize, word: Bits64) -> Result<(), Refusal>
-        ensures order { InOrder A.Memory.ordered B-as-Memory.ordered A.Memory.meaning B-as-Memory.meaning self.old → InOrder A.Memory.ordered B-as-Memory.ordered A.Memory.meaning B-as-Memory.meaning self.new }
-        ensures does { InOrder A.Memory.ordered B-as-Memory.ordered A.Memory.meaning B-as-Memory.meaning self.old → Write (meant A.Memory.meaning B-as-Memory.meaning self.old) port address word result (meant A.Memory.meaning B-as-Memory.meaning self.new) }
+        ensures order { InOrder A.Memory.ordered B.Memory.ordered A.Memory.meaning B.Memory.meaning self.old → InOrder A.Memory.ordered B.Memory.ordered A.Memory.meaning B.Memory.meaning self.new }
+        ensures does { InOrder A.Memory.ordered B.Memory.ordered A.Memory.meaning B.Memory.meaning self.old → Write (meant A.Memory.meaning B.Memory.meaning self.old) port address word result (meant A.Memory.meaning B.Memory.meaning self.new) }
         ensures void { Unmoved self.old self.new }
     {
         self.may_write(port, address)?;
@@ -163,8 +163,8 @@ impl<A: Memory<Word = Bits32>, B: Memory<Word = Bits32>> Memory for Width<A, B> 
     }
 
     fn edge(&mut self)
-        ensures order { InOrder A.Memory.ordered B-as-Memory.ordered A.Memory.meaning B-as-Memory.meaning self.old → InOrder A.Memory.ordered B-as-Memory.ordered A.Memory.meaning B-as-Memory.meaning self.new }
-        ensures does { InOrder A.Memory.ordered B-as-Memory.ordered A.Memory.meaning B-as-Memory.meaning self.old → Edged (meant A.Memory.meaning B-as-Memory.meaning self.old) (meant A.Memory.meaning B-as-Memory.meaning self.new) }
+        ensures order { InOrder A.Memory.ordered B.Memory.ordered A.Memory.meaning B.Memory.meaning self.old → InOrder A.Memory.ordered B.Memory.ordered A.Memory.meaning B.Memory.meaning self.new }
+        ensures does { InOrder A.Memory.ordered B.Memory.ordered A.Memory.meaning B.Memory.meaning self.old → Edged (meant A.Memory.meaning B.Memory.meaning self.old) (meant A.Memory.meaning B.Memory.meaning self.new) }
         ensures void { Unmoved self.old self.new }
     {
         if self.joint.own.depth > 0 {

@@ -1,7 +1,7 @@
 -- The lines of a plan have as many macros' lines as it has macros.
 use Rattle.std.proofs.Common.{◌≡◌, ℕ, zero, suc, ◌+◌, ◌-◌, ◌/◌, ◌%◌, false, cond, eqb, ltb, List, [], ◌∷◌, ◌++◌, map, length, take, Some, None, Ok, Err, codes, decimal, Option, Result, sym, refl, ap, ◌∙◌, append_assoc, add_assoc, zero-add, arith}
 use Rattle.std.specs.Fmt.{digits, digits_onto, digit_glyph}
-use Rattle.std.specs.List.{AllByRecursion as All}
+use Rattle.std.specs.List.{AllByRecursion}
 use Rattle.std.proofs.ByRecursion.{All-append}
 use Rattle.std.proofs.lemmas.List.{take_at}
 use Rattle.std.proofs.lemmas.Bool.{cond_both, ne_eqb}
@@ -118,7 +118,7 @@ top_other last macros = record {
 }
 
 -- all wires are such lines
-wires_other : (ws : List Wire) → All Other (map wire_line ws)
+wires_other : (ws : List Wire) → AllByRecursion Other (map wire_line ws)
 wires_other [] = tt
 wires_other (w ∷ ws) = (wire_other w, wires_other ws)
 
@@ -139,7 +139,7 @@ line_rest : (l more rest : List ℕ) → ((l ++ (10 ∷ [])) ++ more) ++ rest �
 line_rest l more rest = simp append_assoc
 
 -- lines that are no macros' do not count
-others_counted : (ls : List (List ℕ)) (rest : List ℕ) → All Other ls → macro_lines (lines_text ls ++ rest) ≡ macro_lines rest
+others_counted : (ls : List (List ℕ)) (rest : List ℕ) → AllByRecursion Other ls → macro_lines (lines_text ls ++ rest) ≡ macro_lines rest
 others_counted [] rest h = refl
 others_counted (l ∷ ls) rest h =
     ap macro_lines (line_rest l (lines_text ls) rest)
@@ -166,7 +166,7 @@ wired_counted {start} rest (single {m = m} ranged) = ap macro_lines (line_rest (
 wired_counted {start} rest (layered l {p} {q} {a} {b} {ls} {ms} first second fit) =
     let n = start + length p + length q in
     let own = layer_lines l n (start + length p - 1) (n - 1) a b in
-    let others : All Other own = (layer_other l n (start + length p - 1) (n - 1) (over l a b), wires_other (wires_of l n (start + length p - 1) (n - 1) a b)) in
+    let others : AllByRecursion Other own = (layer_other l n (start + length p - 1) (n - 1) (over l a b), wires_other (wires_of l n (start + length p - 1) (n - 1) a b)) in
     let counted = wired_counted (lines_text ms ++ (lines_text own ++ rest)) first in
     let counted' = wired_counted (lines_text own ++ rest) second in
     let counts = count_append p (q ++ (layer_node l ∷ [])) in

@@ -15,10 +15,10 @@ returns-then-self-gt0 g c =
           let k = o live in
           let s = c.edge-halves.ensures.first k.0 in
           let t = c.edge-halves.ensures.second k.1 in
-          let r = edge_both g.row.A-Word-Word.kind j ma mb k.2 k.3 ma' mb' (g.met.A.Memory.tidy c.args.self.now.a k.0) s.1 t.1 in
+          let r = edge_both g.A.Word.Word.kind j ma mb k.2 k.3 ma' mb' (g.met.A.Memory.tidy c.args.self.now.a k.0) s.1 t.1 in
           (s.0, t.0, r.1, r.2));
       does = λ o. (
           let k = o live in
-          (edge_both g.row.A-Word-Word.kind j ma mb k.2 k.3 ma' mb' (g.met.A.Memory.tidy c.args.self.now.a k.0) (c.edge-halves.ensures.first k.0).1 (c.edge-halves.ensures.second k.1).1).0);
+          (edge_both g.A.Word.Word.kind j ma mb k.2 k.3 ma' mb' (g.met.A.Memory.tidy c.args.self.now.a k.0) (c.edge-halves.ensures.first k.0).1 (c.edge-halves.ensures.second k.1).1).0);
       void = search rules;
     }

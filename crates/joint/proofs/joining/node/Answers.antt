@@ -9,7 +9,7 @@ returns-then-i-joint g c = λ o.
     let j = c.args.joint.now in
     let a = g.A.Memory.meaning c.args.a.now in
     let b = g.B.Memory.meaning c.args.b.now in
-    let n = nodes_are c.args.layer g.Word.Word.kind j a b (λ h. (o h).2) in
+    let n = nodes_are c.args.layer g.A.Word.Word.kind j a b (λ h. (o h).2) in
     sym (slice_get_past (piled c.args.layer j a.plan b.plan) c.args.i (omega arith))
 
 pub returns-then-i-joint-2 : goal.returns-then-i-joint-2

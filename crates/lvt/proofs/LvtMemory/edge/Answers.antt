@@ -15,15 +15,15 @@ returns-then-self-gt0 g c =
     let before = c.args.self.now.marks in
     let after = c.mark-held.new.marks in
     let long : length c.args.self.now.marks ≡ max_marks = search rules in
-    let move : InOrder g.row.A-Word-Word.kind g.A.Memory.ordered g.B.Memory.ordered g.A.Memory.meaning g.B.Memory.meaning c.args.self.now → Moved ma mb before after = λ o. (let k = o live in let f = k.2.matches.fits in moved ma mb before after k.3 (c.mark-held.ensures k.0 k.1 (omega arith) (omega arith))) in
+    let move : InOrder g.A.Word.Word.kind g.A.Memory.ordered g.B.Memory.ordered g.A.Memory.meaning g.B.Memory.meaning c.args.self.now → Moved ma mb before after = λ o. (let k = o live in let f = k.2.matches.fits in moved ma mb before after k.3 (c.mark-held.ensures k.0 k.1 (omega arith) (omega arith))) in
     record {
       order = λ o _. (
           let k = o live in
-          let r = edge_both g.row.A-Word-Word.kind j before after ma mb ma' mb' k.2 k.3 (move o) (c.edge.ensures.does k.0) (c.edge-then-self-gt0.ensures.does k.1) in
+          let r = edge_both g.A.Word.Word.kind j before after ma mb ma' mb' k.2 k.3 (move o) (c.edge.ensures.does k.0) (c.edge-then-self-gt0.ensures.does k.1) in
           (c.edge.ensures.order k.0, c.edge-then-self-gt0.ensures.order k.1, r.1, r.2));
       does = λ o. (
           let k = o live in
-          (edge_both g.row.A-Word-Word.kind j before after ma mb ma' mb' k.2 k.3 (move o) (c.edge.ensures.does k.0) (c.edge-then-self-gt0.ensures.does k.1)).0);
+          (edge_both g.A.Word.Word.kind j before after ma mb ma' mb' k.2 k.3 (move o) (c.edge.ensures.does k.0) (c.edge-then-self-gt0.ensures.does k.1)).0);
       void = search rules;
       marks = ((λ o _. move o), search rules);
     }

@@ -12,10 +12,10 @@ returns-then-self-gt0 g c =
     record {
       order = λ o _. (
           let k = o live in
-          let r = edge_both g.row.A-Word-Word.kind c.args.self.now.joint ma mb ma' mb' k.2 k.3 (c.edge.ensures.does k.0) (c.edge-then-self-gt0.ensures.does k.1) in
+          let r = edge_both g.A.Word.Word.kind c.args.self.now.joint ma mb ma' mb' k.2 k.3 (c.edge.ensures.does k.0) (c.edge-then-self-gt0.ensures.does k.1) in
           (c.edge.ensures.order k.0, c.edge-then-self-gt0.ensures.order k.1, r.1, r.2));
       does = λ o. (
           let k = o live in
-          (edge_both g.row.A-Word-Word.kind c.args.self.now.joint ma mb ma' mb' k.2 k.3 (c.edge.ensures.does k.0) (c.edge-then-self-gt0.ensures.does k.1)).0);
+          (edge_both g.A.Word.Word.kind c.args.self.now.joint ma mb ma' mb' k.2 k.3 (c.edge.ensures.does k.0) (c.edge-then-self-gt0.ensures.does k.1)).0);
       void = search rules;
     }

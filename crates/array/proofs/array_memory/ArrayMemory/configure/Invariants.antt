@@ -8,6 +8,6 @@ invariant-loop-address g l =
     × (l.self.depth ≡ l.initial.self.depth)
     × (l.self.used ≡ l.initial.self.used)
     × (l.self.port ≡ l.initial.self.port)
-    × ((x : ℕ) → x < l.address → get_or (vec_items l.self.cells) x g.row.W-Word.nought ≡ g.row.W-Word.nought)
-    × ((x : ℕ) → l.address ≤ x → get_or (vec_items l.self.cells) x g.row.W-Word.nought ≡ get_or (vec_items l.initial.self.cells) x g.row.W-Word.nought)
+    × ((x : ℕ) → x < l.address → get_or (vec_items l.self.cells) x g.W.Word.nought ≡ g.W.Word.nought)
+    × ((x : ℕ) → l.address ≤ x → get_or (vec_items l.self.cells) x g.W.Word.nought ≡ get_or (vec_items l.initial.self.cells) x g.W.Word.nought)
     × (l.address ≡ 0 → vec_items l.self.cells ≡ vec_items l.initial.self.cells)

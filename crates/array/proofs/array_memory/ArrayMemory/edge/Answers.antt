@@ -3,12 +3,12 @@ use Rattle.array.proofs.array_memory.ArrayMemory.edge.Goals as goal
 
 pub returns : goal.returns
 returns g c =
-    let z = g.row.W-Word.nought in
+    let z = g.W.Word.nought in
     let s = c.args.self.now in
     let mid = c.land.new.self in
     let s' = c.free.new.self in
     record {
       order = tt;
-      does = edge_leaves g.row.W-Word.kind z s mid s' c.land.ensures c.free.ensures;
-      spared = edge_spares g.row.W-Word.kind z s mid s' c.land.ensures c.free.ensures;
+      does = edge_leaves g.W.Word.kind z s mid s' c.land.ensures c.free.ensures;
+      spared = edge_spares g.W.Word.kind z s mid s' c.land.ensures c.free.ensures;
     }

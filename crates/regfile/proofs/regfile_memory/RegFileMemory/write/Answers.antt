@@ -22,4 +22,4 @@ invariant_of-self c =
     let first = store_low old.depth old.ports p 0 x c.step.new.self held (omega arith) may.1 old.first in
     let second = store_low old.depth old.ports p 1 x c.step.new.self held (omega arith) may.1 old.second in
     let apart = store_apart old.ports p x c.step.new.self held here long (λ q h e. may.3 q (grind (arith, nat_tests)) (ap (λ (t : WritePort). address (latched t (get_or old.latches q bits64_zero))) e)) in
-    (old.deep, (first, (second, (apart, tt))))
+    record { deep = old.deep; first = first; second = second; apart = apart }
