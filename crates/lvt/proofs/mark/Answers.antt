@@ -1,7 +1,7 @@
 use Rattle.std.proofs.Common.{◌<◌, arith}
 use Rattle.lvt.proofs.Marking.{passed_some, passed_past, passed_none}
 use Rattle.lvt.proofs.mark.Goals as goal
-use Rattle.lvt.proofs.mark.Goals.{in-Some+then-address-marks, in-Some+else-address-marks, in-default}
+use Rattle.lvt.proofs.mark.Goals.{in-Some+then-address-marks, in-Some+else-address-marks, in_default}
 
 pub loop-port-preserved : goal.loop-port-preserved
 loop-port-preserved g c = λ o room.
@@ -13,6 +13,6 @@ loop-port-preserved g c = λ o room.
           passed_some m c.loop-port.port w.in-Some.address c.args.half c.args.marks.now c.loop-port.marks c.match-held.marks (c.loop-port.invariant o room) ((w.in-Some.ensures o).inside below) (omega arith) w.marks-is
       | in-Some+else-address-marks w ↦
           passed_past m c.loop-port.port w.in-Some.address c.args.half c.args.marks.now c.match-held.marks (g.met.M.Memory.tidy c.args.memory.now o) below ((w.in-Some.ensures o).inside below) (omega arith)
-      | in-default w ↦
-          passed_none m c.loop-port.port c.args.half c.args.marks.now c.loop-port.marks c.match-held.marks (c.loop-port.invariant o room) ((w.in-default.ensures o).inside below) w.marks-is
+      | in_default w ↦
+          passed_none m c.loop-port.port c.args.half c.args.marks.now c.loop-port.marks c.match-held.marks (c.loop-port.invariant o room) ((w.in_default.ensures o).inside below) w.marks-is
     ]

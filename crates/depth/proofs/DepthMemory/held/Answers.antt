@@ -10,4 +10,4 @@ returns-then-port-self g c = λ o.
     let ma = g.A.Memory.meaning c.args.self.now.a in
     let mb = g.B.Memory.meaning c.args.self.now.b in
     let tidy = g.met.B.Memory.tidy c.args.self.now.b k.1 in
-    held_layer g.A.Word.Word.kind j ma mb c.args.port c.held.result c.held-then-port-self.result c.held-over.result tidy k.2 here (c.held.ensures k.0) (c.held-then-port-self.ensures k.1) c.held-over.ensures
+    held_layer g.A.Word.Word.kind j ma mb c.args.port c.held.result c.held-then-port-self.result c.held_over.result tidy k.2 here (c.held.ensures k.0) (c.held-then-port-self.ensures k.1) c.held_over.ensures

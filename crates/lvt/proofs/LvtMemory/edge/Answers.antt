@@ -13,9 +13,9 @@ returns-then-self-gt0 g c =
     let ma' = g.A.Memory.meaning c.edge.new.self in
     let mb' = g.B.Memory.meaning c.edge-then-self-gt0.new.self in
     let before = c.args.self.now.marks in
-    let after = c.mark-held.new.marks in
+    let after = c.mark_held.new.marks in
     let long : length c.args.self.now.marks ≡ max_marks = search rules in
-    let move : InOrder g.A.Word.Word.kind g.A.Memory.ordered g.B.Memory.ordered g.A.Memory.meaning g.B.Memory.meaning c.args.self.now → Moved ma mb before after = λ o. (let k = o live in let f = k.2.matches.fits in moved ma mb before after k.3 (c.mark-held.ensures k.0 k.1 (omega arith) (omega arith))) in
+    let move : InOrder g.A.Word.Word.kind g.A.Memory.ordered g.B.Memory.ordered g.A.Memory.meaning g.B.Memory.meaning c.args.self.now → Moved ma mb before after = λ o. (let k = o live in let f = k.2.matches.fits in moved ma mb before after k.3 (c.mark_held.ensures k.0 k.1 (omega arith) (omega arith))) in
     record {
       order = λ o _. (
           let k = o live in
