@@ -14,6 +14,6 @@ returns g c =
     let own = ap (λ (k : ℕ). take k nodes) front ∙ c.copy-plan-count.ensures.plan order in
     record {
       runs = c.run-both-tried.ensures;
-      listing = listed_own g.Word.Word.kind m _ c.args.stock.now c.args.listing.now c.plan-nodes-planned.new.out c.plan-nodes-planned.result planned own c.plan-nodes-planned.ensures;
-      netlist = drawn_own g.Word.Word.kind m _ c.args.drawing.now c.draw-nodes-drawn.new.out c.draw-nodes-drawn.result planned own c.draw-nodes-drawn.ensures;
+      listing = listed_own g.M.Word.Word.kind m _ c.args.stock.now c.args.listing.now c.plan-nodes-planned.new.out c.plan-nodes-planned.result planned own c.plan-nodes-planned.ensures;
+      netlist = drawn_own g.M.Word.Word.kind m _ c.args.drawing.now c.draw-nodes-drawn.new.out c.draw-nodes-drawn.result planned own c.draw-nodes-drawn.ensures;
     }

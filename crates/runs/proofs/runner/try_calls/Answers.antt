@@ -6,7 +6,7 @@ use Rattle.runs.proofs.runner.try_calls.Goals as goal
 
 pub loop-i-init : goal.loop-i-init
 loop-i-init g c =
-    (c.requires.order, shape_same _, running_start g.Word.Word.nought _ c.requires.clear, refl)
+    (c.requires.order, shape_same _, running_start g.M.Word.Word.nought _ c.requires.clear, refl)
 
 pub loop-i-preserved : goal.loop-i-preserved
 loop-i-preserved g c =
@@ -17,7 +17,7 @@ loop-i-preserved g c =
     let tried = c.attempt.ensures inv.0 in
     let lt : i < length c.args.calls.now = omega arith in
     let room : i < length xs = omega arith in
-    let next = running_next g.Word.Word.nought c.args.calls.now (take i xs) (take (i + 1) (set xs i r)) (g.M.Memory.meaning c.loop-i.m) (g.M.Memory.meaning c.attempt.new.m) i c.index-calls-i.result r lt c.index-calls-i.is (take_more_set xs i r room) inv.2 tried.1 in
+    let next = running_next g.M.Word.Word.nought c.args.calls.now (take i xs) (take (i + 1) (set xs i r)) (g.M.Memory.meaning c.loop-i.m) (g.M.Memory.meaning c.attempt.new.m) i c.index-calls-i.result r lt c.index-calls-i.is (take_more_set xs i r room) inv.2 tried.1 in
     let rest : drop (i + 1) xs ≡ drop (i + 1) c.args.answers.now = sym (drop-drop 1 i xs) ∙ ap (drop 1) inv.3 ∙ drop-drop 1 i c.args.answers.now in
     (tried.0, shape_then inv.1 next.1, next.0, drop-set-lt (i + 1) xs i r (omega arith) ∙ rest)
 
@@ -27,7 +27,7 @@ returns g c =
     let xs = c.loop-i.answers in
     let n = c.places-tried.result in
     let end : c.loop-i.i ≡ n = omega arith in
-    let z = g.Word.Word.nought in
+    let z = g.M.Word.Word.nought in
     let m = g.M.Memory.meaning c.loop-i.m in
     let whole : Ran z (take n c.args.calls.now) (take n xs) m = ran z _ _ m (subst (λ k. Running z (take k c.args.calls.now) (take k xs) m) end inv.2) in
     record {
@@ -39,7 +39,7 @@ returns g c =
       rest = subst (λ k. drop k xs ≡ drop k c.args.answers.now) end inv.3;
     }
 
-pub offset-bounds-answers-i : goal.offset-bounds-answers-i
-offset-bounds-answers-i g c =
+pub offset_bounds-answers-i : goal.offset_bounds-answers-i
+offset_bounds-answers-i g c =
     let room : c.loop-i.i < length c.args.answers.now = omega arith in
     search rules

@@ -8,7 +8,7 @@ pub returns : goal.returns
 returns g c =
     let s = c.args.self.now in
     let did = λ (o : InOrder g.A.Word.Word.kind g.A.Memory.ordered g.B.Memory.ordered g.A.Memory.meaning g.B.Memory.meaning s). (
-    let m = c.in-ok-may-read.ensures o in
+    let m = c.in_ok-may_read.ensures o in
     let k = o (live_read s.joint c.args.port m.0) in
     read_layer g.A.Word.Group.plus g.A.Word.Word.kind s.joint _ _ _ _ c.args.port c.args.address c.read_both.result k.2 k.3 (g.met.A.Memory.tidy s.a k.0) (g.met.B.Memory.tidy s.b k.1) m
     (c.read_both.ensures.does k.0 k.1)) in
