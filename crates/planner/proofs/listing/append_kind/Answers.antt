@@ -3,7 +3,7 @@ use Rattle.page.proofs.Pages.{extends_by, extends_is, extends_none}
 use Rattle.planner.proofs.listing.append_kind.Goals as goal
 
 pub returns-in-Some : goal.returns-in-Some
-returns-in-Some c = extends_is (c.as-bytes.ensures ∙ c.in-Some.ensures) (extends_by _ c.append.result c.append.ensures)
+returns-in-Some c = extends_is (c.as_bytes.ensures ∙ c.in-Some.ensures) (extends_by _ c.append.result c.append.ensures)
 
 pub returns-in-None : goal.returns-in-None
 returns-in-None c = extends_is (sym c.in-None.ensures) extends_none

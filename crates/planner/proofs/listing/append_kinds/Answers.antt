@@ -7,7 +7,7 @@ use Rattle.planner.proofs.listing.append_kinds.Goals as goal
 pub loop-kind-preserved : goal.loop-kind-preserved
 loop-kind-preserved c =
     extends_is (kinds_more c.args.nodes.now c.args.stock.now c.loop-kind.kind (omega arith))
-    (extends_then c.loop-kind.invariant c.append-kind-end.ensures)
+    (extends_then c.loop-kind.invariant c.append_kind-end.ensures)
 
 pub returns : goal.returns
 returns c =

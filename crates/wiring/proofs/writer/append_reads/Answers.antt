@@ -12,7 +12,7 @@ loop-port-init c = continues_none
 pub loop-port-preserved : goal.loop-port-preserved
 loop-port-preserved c =
     continues_is (ports_more (joint_reads c.args.joint) c.loop-port.port c.read_wires.ensures)
-    (continues_then c.loop-port.invariant c.append-wires-end.ensures)
+    (continues_then c.loop-port.invariant c.append_wires-end.ensures)
 
 pub returns : goal.returns
 returns c =

@@ -8,4 +8,4 @@ use Rattle.wiring.proofs.writer.append_wires.Goals as goal
 pub returns-in-Two : goal.returns-in-Two
 returns-in-Two c =
     continues_is (ap (λ (ws : PortWires). map wire_line (listed ws)) (sym c.in-Two.is))
-    (continues_then (c.append-line-end.ensures _ c.wire-line-in-Two.ensures) (c.append-line-in-Two.ensures _ c.wire-line-in-Two-2.ensures))
+    (continues_then (c.append_line-end.ensures _ c.wire_line-in-Two.ensures) (c.append_line-in-Two.ensures _ c.wire_line-in-Two-2.ensures))

@@ -10,7 +10,7 @@ returns c =
     record {
       lines = _;
       taken = (j.a, j.b, told.rest, told.halves, told.fits, told.after ∙ ap (λ (p : Part). p ∷ told.rest) told.own, refl);
-      written = continues_is (layer_lines_are j c.args.layer c.args.node told.layer told.own) c.append-layer-end.ensures;
+      written = continues_is (layer_lines_are j c.args.layer c.args.node told.layer told.own) c.append_layer-end.ensures;
       count = omega (arith, told.count);
       room = told.room;
     }

@@ -10,11 +10,11 @@ returns c =
     record {
       lines = _;
       taken = (
-        c.is-in-range.ensures.0 c.if-not-is-in-range.false,
+        c.is_in_range.ensures.0 c.if-not-is_in_range.false,
         covered_held old c.put.result old.count _ c.put.ensures (search rules) ∙ ap (λ (s : Shape). record { root = c.args.node; shape = s } ∷ held old) c.shape.ensures,
         refl,
       );
-      written = c.append-macro-end.ensures;
+      written = c.append_macro-end.ensures;
       count = omega arith;
       room = ap length c.put.ensures.1 ∙ simp length-set;
     }

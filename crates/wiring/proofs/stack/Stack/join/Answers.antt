@@ -12,10 +12,10 @@ returns-then-count-lt2 c =
     let s = c.args.self in
     (TooFewMemories, (c.args.layer, refl, omega (arith, length-map (held s) (λ (p : Part). p.shape), held_length s.parts s.count (search rules))))
 
-pub returns-in-default : goal.returns-in-default
-returns-in-default c =
+pub returns-in_default : goal.returns-in_default
+returns-in_default c =
     let s = c.args.self in
-    (Unfit, (c.args.layer, _, _, _, refl, ap shapes (two_on_top s.parts s.count _ c.if-count-lt2.false (search rules)), c.in-default.ensures))
+    (Unfit, (c.args.layer, _, _, _, refl, ap shapes (two_on_top s.parts s.count _ c.if-count-lt2.false (search rules)), c.in_default.ensures))
 
 pub returns : goal.returns
 returns c =
