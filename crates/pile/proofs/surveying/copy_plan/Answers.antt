@@ -2,7 +2,7 @@ use Rattle.std.proofs.Common.{◌≡◌, ℕ, ◌+◌, List, take, sym, ap, ◌�
 use Rattle.node.specs.declared.node.Node.{Node}
 use Rattle.pile.proofs.Copies.{copy_more, copy_all, node_there, plan_few}
 use Rattle.pile.proofs.surveying.copy_plan.Goals as goal
-use Rattle.pile.proofs.surveying.copy_plan.Goals.{in-Some, in-default}
+use Rattle.pile.proofs.surveying.copy_plan.Goals.{in-Some, in_default}
 
 pub loop-i-preserved : goal.loop-i-preserved
 loop-i-preserved g c =
@@ -13,7 +13,7 @@ loop-i-preserved g c =
         search rules,
         λ o. ap (λ (t : List Node). take (i + 1) t) w.nodes-is ∙ copy_more plan c.loop-i.nodes i w.in-Some.node (search rules) (sym (w.in-Some.ensures o)) (c.loop-i.invariant.1 o),
       )
-      | in-default w ↦ (search rules, λ o. absurd (node_there plan i (let n = c.nodes.ensures o in let m = c.min-count.ensures in let t = c.loop-i-test.true in omega arith) (sym (w.in-default.ensures o))))
+      | in_default w ↦ (search rules, λ o. absurd (node_there plan i (let n = c.nodes.ensures o in let m = c.min-count.ensures in let t = c.loop-i-test.true in omega arith) (sym (w.in_default.ensures o))))
     ]
 
 pub returns : goal.returns
