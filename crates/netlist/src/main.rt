@@ -9,13 +9,11 @@ use judge::judge;
 use node::{Layer, MAX_NODES, Node};
 use seal::Draft;
 use std::fs;
+use std::process::ExitCode;
 use text::{Fault, MAX_BYTES};
 use wiring::netlist;
 
 const PLAN: &str = "plan.txt";
-
-// How a program ends that printed a fault or could not read a file.
-struct Failed;
 
 // Prints the line of a fault. Nothing was written.
 fn fail<F: Fault>(rt: &HostRuntime, part: Part, fault: &F) -> anyhow::Result<bool> {
@@ -44,9 +42,10 @@ fn write_netlist(rt: &HostRuntime) -> anyhow::Result<bool> {
     }
 }
 
-fn main(rt: HostRuntime) -> Result<(), Failed> {
-    match write_netlist(&rt) {
-        Ok(true) => Ok(()),
-        _ => Err(Failed),
+fn main(rt: HostRuntime) -> anyhow::Result<ExitCode> {
+    if write_netlist(&rt)? {
+        Ok(ExitCode::SUCCESS)
+    } else {
+        Ok(ExitCode::FAILURE)
     }
 }

@@ -12,14 +12,12 @@ use node::{Layer, MAX_NODES, Node};
 use planner::plan;
 use seal::Draft;
 use std::fs;
+use std::process::ExitCode;
 use text::{Fault, MAX_BYTES};
 
 const PLAN: &str = "plan.txt";
 
 const STOCK: &str = "stock.txt";
-
-// How a program ends that printed a fault or could not read a file.
-struct Failed;
 
 // Prints the line of a fault. Nothing was written.
 fn fail<F: Fault>(rt: &HostRuntime, part: Part, fault: &F) -> anyhow::Result<bool> {
@@ -60,9 +58,10 @@ fn run(rt: &HostRuntime) -> anyhow::Result<bool> {
     write_listing(rt, text.as_slice(), stock.as_slice())
 }
 
-fn main(rt: HostRuntime) -> Result<(), Failed> {
-    match run(&rt) {
-        Ok(true) => Ok(()),
-        _ => Err(Failed),
+fn main(rt: HostRuntime) -> anyhow::Result<ExitCode> {
+    if run(&rt)? {
+        Ok(ExitCode::SUCCESS)
+    } else {
+        Ok(ExitCode::FAILURE)
     }
 }
