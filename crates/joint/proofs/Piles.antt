@@ -1,5 +1,5 @@
 -- The plan and the numbers of a layer, from those of its halves.
-use Rattle.std.proofs.Common.{◌≡◌, ℕ, zero, suc, ◌+◌, ◌<◌, ◌≤◌, Bool, ltb, ◌⊎◌, List, [], ◌∷◌, ◌++◌, length, Some, sym, refl, ap, ◌∙◌, subst, inl, inr, arith, length-append, le-ltb, lt-ltb}
+use Rattle.std.proofs.Common.{◌≡◌, ℕ, zero, suc, ◌+◌, ◌<◌, Bool, ltb, List, [], ◌∷◌, ◌++◌, length, Some, sym, refl, ap, ◌∙◌, subst, inl, inr, arith, length-append, le-ltb, lt-ltb}
 use Rattle.std.proofs.lemmas.Bool.{cases_lt, cond-true, cond-false}
 use Rattle.std.specs.List.{slice_get}
 use Rattle.word.specs.declared.Letter.{Letter}
@@ -7,14 +7,13 @@ use Rattle.node.specs.declared.node.Layer.{Layer}
 use Rattle.node.specs.declared.node.Node.{Node}
 use Rattle.node.specs.declared.node.Node.TheVariants.{Layer as layer_node}
 use Rattle.node.specs.declared.shape.Shape.{Shape}
-use Rattle.node.specs.Limits.{max_nodes}
 use Rattle.node.specs.Nodes.{over}
 use Rattle.node.specs.Nodes as nodes
 use Rattle.node.specs.Plans.{Plan, layered}
 use Rattle.memory.specs.Meaning.{Meaning, Port, Planned, whole, void, SameShape, shaped}
 use Rattle.joint.specs.declared.sizes.Joint.{Joint}
 use Rattle.joint.specs.Fits.{Matches}
-use Rattle.joint.specs.Piles.{Measures, Agreed, Measured, Made, pile, piled, layer}
+use Rattle.joint.specs.Piles.{Agreed, Measured, Made, pile, piled, layer}
 
 -- the plan of a layer that is not void
 pub piled_live : (l : Layer) (j : Joint) (p q : List Node) → 0 < j.own.depth → piled l j p q ≡ pile l p q

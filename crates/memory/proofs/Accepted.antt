@@ -1,9 +1,9 @@
 -- A call that no rule refuses is accepted.
-use Rattle.std.proofs.Common.{◌≡◌, ℕ, ◌+◌, ◌-◌, ◌<◌, ◌≤◌, Some, None, Ok, Err, Option, Result, sym, refl, ap, ◌∙◌, arith}
+use Rattle.std.proofs.Common.{◌≡◌, ℕ, Ok, Err, Result, refl, ap, arith}
 use Rattle.memory.specs.declared.refusal.Refusal.{Refusal}
 use Rattle.memory.specs.declared.refusal.Refusal.TheVariants.{NoPort, NoAddress, Busy, Held}
-use Rattle.memory.specs.Meaning.{Meaning, Port, free, holding, address, SameShape, SameWords}
-use Rattle.memory.specs.Calls.{MayRead, MayWrite, Read, Write, Same, Marked, Stored}
+use Rattle.memory.specs.Meaning.{Meaning, address}
+use Rattle.memory.specs.Calls.{MayRead, MayWrite, Read, Write, Marked, Stored}
 
 pub not_both_reads : {W : Type 0} (m : Meaning W) (p x : ℕ) (e : Refusal) → MayRead m p x (Ok tt) → MayRead m p x (Err e) → ⊥
 not_both_reads m p x NoPort h k = omega arith

@@ -1,5 +1,5 @@
 -- Macros of the nodes passed so far.
-use Rattle.std.proofs.Common.{◌≡◌, ℕ, zero, suc, ◌+◌, ◌<◌, ◌≤◌, Bool, true, false, cond, List, [], ◌∷◌, ◌++◌, length, take, Some, None, Option, sym, refl, ap, ◌∙◌, add-one, arith}
+use Rattle.std.proofs.Common.{◌≡◌, ℕ, zero, suc, ◌+◌, ◌<◌, Bool, cond, List, [], ◌∷◌, length, take, Some, None, ap, add-one, arith}
 use Rattle.std.specs.List.{slice_get}
 use Rattle.node.specs.declared.node.Node.{Node}
 use Rattle.node.specs.Nodes.{is_macro}

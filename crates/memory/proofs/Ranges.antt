@@ -1,5 +1,5 @@
 -- The numbers of a memory that is not void.
-use Rattle.std.proofs.Common.{◌≡◌, ◌<◌, ◌≤◌, List, sym, arith}
+use Rattle.std.proofs.Common.{◌≤◌, List, arith}
 use Rattle.word.specs.declared.Letter.{Letter}
 use Rattle.node.specs.declared.node.Node.{Node}
 use Rattle.node.specs.declared.node.Layer.TheVariants.{Replicate, Lvt, Xor, Depth, Width}

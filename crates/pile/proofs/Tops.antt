@@ -1,17 +1,16 @@
 -- The sealed plan of a memory is the memory's own.
-use Rattle.std.proofs.Common.{◌≡◌, ℕ, ◌<◌, ◌≤◌, List, [], ◌∷◌, ◌++◌, length, Some, None, Ok, Err, Option, Result, sym, refl, ap, ◌∙◌, subst, arith, length-append}
+use Rattle.std.proofs.Common.{◌≡◌, ℕ, ◌<◌, List, [], ◌∷◌, ◌++◌, length, Some, None, Ok, Err, Option, Result, sym, refl, ap, ◌∙◌, subst, arith, length-append}
 use Rattle.word.specs.declared.Letter.{Letter}
 use Rattle.node.specs.declared.faults.CheckFault.{CheckFault}
 use Rattle.node.specs.declared.node.Node.{Node}
 use Rattle.node.specs.declared.node.Node.TheVariants.{Layer as layer_node}
 use Rattle.node.specs.declared.shape.Shape.{Shape}
 use Rattle.node.specs.declared.verdict.Top.{Top}
-use Rattle.node.specs.Plans.{Plan, single, layered, Checked, macro_count}
+use Rattle.node.specs.Plans.{Plan, single, layered, macro_count}
 use Rattle.node.proofs.Sole.{checked_sole}
 use Rattle.seal.specs.Sealing.{Seals, top_macros}
 use Rattle.memory.specs.Meaning.{Meaning, Planned, whole, void, shaped}
 use Rattle.memory.proofs.Ranges.{plan_ranged}
-use Rattle.stock.specs.declared.stock.Stock.{Stock}
 use Rattle.planner.specs.declared.listing.Planned.{Planned as Answer}
 use Rattle.planner.specs.Listings.{Listed}
 use Rattle.wiring.specs.declared.faults.NetlistFault.{NetlistFault}

@@ -1,7 +1,6 @@
 -- What holds of the layer, from what holds of its halves.
-use Rattle.std.specs.Prelude.{◌≡◌, ℕ, ◌<◌, ◌⊎◌}
+use Rattle.std.specs.Prelude.{◌≡◌, ℕ, ◌<◌}
 use Rattle.std.proofs.Common.{sym, ap, ◌∙◌, inl, inr, arith}
-use Rattle.std.proofs.lemmas.Bool.{cases_lt}
 use Rattle.word.specs.declared.Letter.{Letter}
 use Rattle.node.specs.declared.node.Layer.TheVariants.{Replicate as own}
 use Rattle.memory.specs.Meaning.{Meaning, address, Tidy}

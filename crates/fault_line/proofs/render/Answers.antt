@@ -1,7 +1,7 @@
-use Rattle.std.proofs.Common.{◌≡◌, decimal, ap, ◌∙◌, rules}
+use Rattle.std.proofs.Common.{decimal, ◌∙◌, rules}
 use Rattle.text.proofs.Lines.{adds_first, adds_then, adds_is, adds_whole}
 use Rattle.fault_line.specs.Lines.{part_name}
-use Rattle.fault_line.proofs.Rendering.{fault_parts, fault_parts_are, fault_parts_short}
+use Rattle.fault_line.proofs.Rendering.{fault_parts_are, fault_parts_short}
 use Rattle.fault_line.proofs.render.Goals as goal
 
 pub returns : goal.returns

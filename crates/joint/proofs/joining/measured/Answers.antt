@@ -1,4 +1,4 @@
-use Rattle.std.proofs.Common.{arith, rules}
+use Rattle.std.proofs.Common.{rules}
 use Rattle.joint.proofs.Measuring.{half_is}
 use Rattle.joint.proofs.joining.measured.Goals as goal
 

@@ -1,4 +1,4 @@
-use Rattle.std.proofs.Common.{◌≡◌, ◌-◌, sym, ◌∙◌, arith}
+use Rattle.std.proofs.Common.{◌-◌, sym, ◌∙◌, arith}
 use Rattle.std.proofs.lemmas.Option.{slice_get_past}
 use Rattle.joint.specs.Piles.{piled}
 use Rattle.joint.proofs.Piles.{nodes_are, live_node, nth_a, nth_b, nth_own}

@@ -1,4 +1,4 @@
-use Rattle.std.proofs.Common.{◌≡◌, ℕ, ◌<◌, ◌≤◌, take}
+use Rattle.std.proofs.Common.{◌≡◌, ◌≤◌, take}
 use Rattle.node.specs.Plans.{macro_count}
 use Rattle.memory.proofs.memory.Memory.macros.Given as goal
 
