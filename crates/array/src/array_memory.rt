@@ -58,7 +58,7 @@ impl<W: Word> Memory for Array<W> {
 
     ghost meaning = { meant W.Word.kind W.Word.nought };
 
-    ghost tidy = { first_of (Prim.search rules, Prim.grind (arith, Self.row.coded.inj)) };
+    ghost tidy = { Prim.search rules };
 
     ghost planned = { λ s o. array_planned W.Word.kind W.Word.nought s.cells.items s.depth s.used s.port (let deep = s.deep in omega arith) };
 

@@ -3,7 +3,7 @@ ghost use Rattle.std.specs.Prelude.{◌≡◌};
 ghost use Rattle.word.specs.declared.Letter.TheVariants.{H as letter_h};
 ghost use Rattle.kinds.specs.Bits.{bits32_zero, bits32_code, bits32_xor};
 ghost use Rattle.kinds.specs.Apart.{bits32_same};
-ghost use Rattle.std.proofs.Common.{rules, arith};
+ghost use Rattle.std.proofs.Common.{rules};
 ghost use Rattle.std.proofs.lemmas.Nat.{xor_comm};
 ghost use Rattle.std.specs.Int.Bits.{xor_assoc};
 ghost use Rattle.kinds.specs.Sums.{xor_restores};
@@ -27,9 +27,9 @@ impl Word for Bits32 {
 
     ghost coded = { bits32_code };
 
-    ghost nought_code = { first_of (Prim.search rules, Prim.grind (arith, Self.row.coded.inj)) };
+    ghost nought_code = { Prim.search rules };
 
-    ghost in_row = { first_of (Prim.search rules, Prim.grind (arith, Self.row.coded.inj)) };
+    ghost in_row = { Prim.search rules };
 
     ghost apart = { bits32_same };
 

@@ -3,7 +3,7 @@ ghost use Rattle.std.specs.Prelude.{◌≡◌};
 ghost use Rattle.word.specs.declared.Letter.TheVariants.{B as letter_b};
 ghost use Rattle.kinds.specs.Bits.{bits64_zero, bits64_code, bits64_xor};
 ghost use Rattle.kinds.specs.Apart.{bits64_same};
-ghost use Rattle.std.proofs.Common.{rules, arith};
+ghost use Rattle.std.proofs.Common.{rules};
 ghost use Rattle.std.proofs.lemmas.Nat.{xor_comm};
 ghost use Rattle.std.specs.Int.Bits.{xor_assoc};
 ghost use Rattle.kinds.specs.Sums.{xor_restores};
@@ -27,9 +27,9 @@ impl Word for Bits64 {
 
     ghost coded = { bits64_code };
 
-    ghost nought_code = { first_of (Prim.search rules, Prim.grind (arith, Self.row.coded.inj)) };
+    ghost nought_code = { Prim.search rules };
 
-    ghost in_row = { first_of (Prim.search rules, Prim.grind (arith, Self.row.coded.inj)) };
+    ghost in_row = { Prim.search rules };
 
     ghost apart = { bits64_same };
 

@@ -2,7 +2,7 @@
 ghost use Rattle.word.specs.declared.Letter.TheVariants.{O as letter_o};
 ghost use Rattle.kinds.specs.Orders.{order_zero, order_code};
 ghost use Rattle.kinds.specs.Apart.{order_apart};
-ghost use Rattle.std.proofs.Common.{rules, arith};
+ghost use Rattle.std.proofs.Common.{rules};
 
 use crate::order::Order;
 use word::{Letter, Word};
@@ -14,9 +14,9 @@ impl Word for Order {
 
     ghost coded = { order_code };
 
-    ghost nought_code = { first_of (Prim.search rules, Prim.grind (arith, Self.row.coded.inj)) };
+    ghost nought_code = { Prim.search rules };
 
-    ghost in_row = { first_of (Prim.search rules, Prim.grind (arith, Self.row.coded.inj)) };
+    ghost in_row = { Prim.search rules };
 
     ghost apart = { order_apart };
 

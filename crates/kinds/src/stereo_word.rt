@@ -3,7 +3,7 @@ ghost use Rattle.std.specs.Prelude.{◌≡◌};
 ghost use Rattle.word.specs.declared.Letter.TheVariants.{S as letter_s};
 ghost use Rattle.kinds.specs.Stereos.{stereo_zero, stereo_code, stereo_plus, stereo_minus};
 ghost use Rattle.kinds.specs.Apart.{stereo_apart, stereo_same};
-ghost use Rattle.std.proofs.Common.{rules, arith};
+ghost use Rattle.std.proofs.Common.{rules};
 ghost use Rattle.kinds.specs.Sums.{side_commutes, side_associates, side_restores};
 
 use crate::stereo::Stereo;
@@ -40,9 +40,9 @@ impl Word for Stereo {
 
     ghost coded = { stereo_code };
 
-    ghost nought_code = { first_of (Prim.search rules, Prim.grind (arith, Self.row.coded.inj)) };
+    ghost nought_code = { Prim.search rules };
 
-    ghost in_row = { first_of (Prim.search rules, Prim.grind (arith, Self.row.coded.inj)) };
+    ghost in_row = { Prim.search rules };
 
     ghost apart = { stereo_apart };
 
