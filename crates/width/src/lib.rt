@@ -3,7 +3,7 @@
 // The low half of each word is in A, the high half in B, and every call goes to both.
 #![tactic(auto)]
 
-ghost use Rattle.word.specs.declared.Letter.TheVariants.{H as letter_h, H};
+ghost use Rattle.word.specs.declared.Letter.TheVariants.{H as letter_h, B as letter_b};
 ghost use Rattle.kinds.specs.Bits.{bits32_zero, bits64_zero};
 ghost use Rattle.memory.specs.Meaning.{Cleared, SameShape};
 ghost use Rattle.memory.specs.Calls.{Read, Write, Edged};
@@ -12,7 +12,6 @@ ghost use Rattle.joint.specs.Piles.{Configured, Made, Measured};
 ghost use Rattle.width.specs.Width.{InOrder, Unmoved, meant};
 ghost use Rattle.width.specs.Halves.{tidy_layer};
 ghost use Rattle.std.specs.Prelude.{refl};
-ghost use Rattle.word.specs.declared.Letter.TheVariants as Thevariants;
 ghost use Rattle.joint.proofs.Piles.{planned_layer};
 
 use joint::{Joint, join};
@@ -90,7 +89,7 @@ impl<A: Memory<Word = Bits32>, B: Memory<Word = Bits32>> Memory for Width<A, B> 
 
     ghost planned = { λ s o.
         let m = meant A.Memory.meaning B.Memory.meaning s in
-        planned_layer own H Thevariants.B s.joint (A.Memory.meaning s.a) (B.Memory.meaning s.b) m.word m.used m.port refl
+        planned_layer own letter_h letter_b s.joint (A.Memory.meaning s.a) (B.Memory.meaning s.b) m.word m.used m.port refl
         (λ live. let k = o live in (A.Memory.planned s.a k.0, B.Memory.planned s.b k.1, k.2)) };
 
     fn configure(&mut self)
