@@ -1,2 +1,2 @@
 pub mod Depth
-pub mod Halves
+pub mod Tidy

@@ -9,7 +9,7 @@ ghost use Rattle.memory.specs.Calls.{Read, Write, Edged};
 ghost use Rattle.node.specs.declared.node.Layer.TheVariants.{Depth as own};
 ghost use Rattle.joint.specs.Piles.{Configured, Made};
 ghost use Rattle.depth.specs.Depth.{HeldOver, InOrder, PlacedAt, ServedAt, Unmoved, meant};
-ghost use Rattle.depth.specs.Halves.{tidy_layer};
+ghost use Rattle.depth.specs.Tidy.{tidy_layer};
 ghost use Rattle.std.specs.Prelude.{refl};
 ghost use Rattle.joint.proofs.Piles.{planned_layer};
 

@@ -1,5 +1,5 @@
+pub mod Apart
 pub mod Bits
 pub mod Orders
 pub mod Stereos
-pub mod Apart
 pub mod Sums

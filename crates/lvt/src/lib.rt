@@ -10,7 +10,7 @@ ghost use Rattle.memory.specs.Calls.{MayWrite, Read, Write, Edged};
 ghost use Rattle.node.specs.declared.node.Layer.TheVariants.{Lvt as own};
 ghost use Rattle.joint.specs.Piles.{Configured, Made};
 ghost use Rattle.lvt.specs.Lvt.{AllFirst, InOrder, Marks, Moved, Overlaid, Placed, Unmoved, marked, meant, pick};
-ghost use Rattle.lvt.specs.Halves.{tidy_layer};
+ghost use Rattle.lvt.specs.Tidy.{tidy_layer};
 ghost use Rattle.joint.proofs.Piles.{planned_layer};
 
 use joint::{Joint, join};

@@ -1,5 +1,5 @@
 -- The steps of a register file's edge and of its configuration, which no other crate sees.
-use Rattle.std.specs.Prelude.{◌≡◌, false, length, get_or, replicate, slice_index_or}
+use Rattle.std.specs.Prelude.{◌≡◌, false, length, replicate, slice_index_or}
 use Rattle.kinds.specs.Bits.{bits64_zero}
 use Rattle.port.specs.declared.WritePort.TheVariants.{Free}
 use Rattle.port.specs.Ports.{landed}
@@ -20,8 +20,8 @@ pub record Freed (s s' : RegFile) : Type 0 where
   pub depth : s'.depth ≡ s.depth
   pub words : s'.words ≡ s.words
   pub used : s'.used ≡ replicate read_ports false
-  pub first : get_or s'.ports 0 Free ≡ Free
-  pub second : get_or s'.ports 1 Free ≡ Free
+  pub first : slice_index_or s'.ports 0 Free ≡ Free
+  pub second : slice_index_or s'.ports 1 Free ≡ Free
   pub latches : s'.latches ≡ s.latches
 
 -- every word is zero, and nothing else has changed

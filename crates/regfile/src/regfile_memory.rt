@@ -16,7 +16,7 @@ use kinds::Bits64;
 use memory::{Memory, Refusal};
 use node::{Macro, Node};
 use port::{Event, WritePort};
-use word::{Letter, Word, Word as _};
+use word::{Letter, Word};
 
 // Puts the word at the address that the port holds.
 fn put(port: WritePort, word: Bits64, words: &mut [Bits64])

@@ -9,7 +9,7 @@ ghost use Rattle.memory.specs.Calls.{Read, Write, Edged};
 ghost use Rattle.node.specs.declared.node.Layer.TheVariants.{Replicate as own};
 ghost use Rattle.joint.specs.Piles.{Configured, Made};
 ghost use Rattle.replicate.specs.Replicate.{InOrder, Unmoved, meant};
-ghost use Rattle.replicate.specs.Halves.{tidy_layer};
+ghost use Rattle.replicate.specs.Tidy.{tidy_layer};
 ghost use Rattle.joint.proofs.Piles.{planned_layer};
 
 use joint::{Joint, join};

@@ -50,7 +50,7 @@ sound_clocked n s =
 sound_took : {W : Type 0} (n : ℕ) (s : State W) (p : ℕ) → Sound n s → Sound n (took s p)
 sound_took n s p h = record { lands = h.lands; within = h.within; held = h.held; stays = h.stays }
 
-module _ {W : Type 0} (n : ℕ) (s : State W) (h : Sound n s) (p a : ℕ) (w : W) (lt : p < n) (idle-port : busy (s.port p) ≡ false) (idle-address : s.held a ≡ false) where
+module _ {W : Type 0} (n : ℕ) (s : State W) (h : Sound n s) (p a : ℕ) (w : W) (lt : p < n) (idle_port : busy (s.port p) ≡ false) (idle_address : s.held a ≡ false) where
   -- a port of the filled state that holds something is the filled one, or another that held it before, at another address
   filled_port : (q b : ℕ) (v : W) → (filled s p a w).port q ≡ holding b v → ((b ≡ a) × (v ≡ w)) ⊎ ((s.port q ≡ holding b v) × (eqb b a ≡ false))
   filled_port q b v e =
@@ -62,7 +62,7 @@ module _ {W : Type 0} (n : ℕ) (s : State W) (h : Sound n s) (p a : ℕ) (w : W
             inl (address, word)
         | inr y ↦
             let there : s.port q ≡ holding b v = sym (cond-false (eqb q p) (holding a w) (s.port q) y) ∙ e in
-            inr (there, ne_eqb b a (λ k. both_ways (s.held a) idle-address (subst (λ j. s.held j ≡ true) k (h.within q b v there))))
+            inr (there, ne_eqb b a (λ k. both_ways (s.held a) idle_address (subst (λ j. s.held j ≡ true) k (h.within q b v there))))
       ]
 
   sound_filled : Sound n (filled s p a w)
@@ -84,7 +84,7 @@ module _ {W : Type 0} (n : ℕ) (s : State W) (h : Sound n s) (p a : ℕ) (w : W
                   (p, w, lt, cond-true (eqb p p) (holding a w) (s.port p) (eq-eqb p p refl) ∙ ap (λ k. holding k w) (sym (eqb-true b a y)))
               | inr y ↦
                   let o = h.held b y in
-                  let other : eqb o.0 p ≡ false = ne_eqb o.0 p (λ k. both_ways (busy (s.port p)) idle-port (ap busy (subst (λ j. s.port j ≡ holding b o.1) k o.3))) in
+                  let other : eqb o.0 p ≡ false = ne_eqb o.0 p (λ k. both_ways (busy (s.port p)) idle_port (ap busy (subst (λ j. s.port j ≡ holding b o.1) k o.3))) in
                   (o.0, o.1, o.2, cond-false (eqb o.0 p) (holding a w) (s.port o.0) other ∙ o.3)
             ];
         stays = λ b e.
@@ -153,13 +153,13 @@ module _ {W : Type 0} (m : Meaning W) (s : State W) (sees : Shows m s) (sound : 
       )
 
   unread_goal : (m' : Meaning W) (p a : ℕ) (n : Refusal) → Read m p a (Err n) m' → Goal m' (read p a) (Refused n)
-  unread_goal m' p a n k = (answer-is n k.0, same_shows k.1, k.1.words.shape, sound)
+  unread_goal m' p a n k = (answer_is n k.0, same_shows k.1, k.1.words.shape, sound)
     where
-      answer-is : (n : Refusal) → MayRead m p a (Err n) → Refused n ≡ answer (sizes m) s (read p a)
-      answer-is NoPort h = rw (le-leb m.reads p h)
-      answer-is NoAddress h = rw (lt-leb m.reads p h.0, le-leb m.depth a h.1)
-      answer-is Busy h = rw (lt-leb m.reads p h.0, lt-leb m.depth a h.1, sym (sees.used p h.0) ∙ h.2)
-      answer-is Held h = absurd h
+      answer_is : (n : Refusal) → MayRead m p a (Err n) → Refused n ≡ answer (sizes m) s (read p a)
+      answer_is NoPort h = rw (le-leb m.reads p h)
+      answer_is NoAddress h = rw (lt-leb m.reads p h.0, le-leb m.depth a h.1)
+      answer_is Busy h = rw (lt-leb m.reads p h.0, lt-leb m.depth a h.1, sym (sees.used p h.0) ∙ h.2)
+      answer_is Held h = absurd h
 
   write_goal : (m' : Meaning W) (p a : ℕ) (w : W) → Write m p a w (Ok tt) m' → Goal m' (write p a w) Accepted
   write_goal m' p a w k =
@@ -187,16 +187,16 @@ module _ {W : Type 0} (m : Meaning W) (s : State W) (sees : Shows m s) (sound : 
       )
 
   unwritten_goal : (m' : Meaning W) (p a : ℕ) (w : W) (n : Refusal) → Write m p a w (Err n) m' → Goal m' (write p a w) (Refused n)
-  unwritten_goal m' p a w n k = (answer-is n k.0, same_shows k.1, k.1.words.shape, sound)
+  unwritten_goal m' p a w n k = (answer_is n k.0, same_shows k.1, k.1.words.shape, sound)
     where
-      answer-is : (n : Refusal) → MayWrite m p a (Err n) → Refused n ≡ answer (sizes m) s (write p a w)
-      answer-is NoPort h = rw (le-leb m.writes p h)
-      answer-is NoAddress h = rw (lt-leb m.writes p h.0, le-leb m.depth a h.1)
-      answer-is Busy h =
+      answer_is : (n : Refusal) → MayWrite m p a (Err n) → Refused n ≡ answer (sizes m) s (write p a w)
+      answer_is NoPort h = rw (le-leb m.writes p h)
+      answer_is NoAddress h = rw (lt-leb m.writes p h.0, le-leb m.depth a h.1)
+      answer_is Busy h =
           let o = holding_at (m.port p) h.2.0 h.2.1 in
           let used : busy (s.port p) ≡ true = ap busy (sym (sees.ports p h.0) ∙ o.1) in
           rw (lt-leb m.writes p h.0, lt-leb m.depth a h.1, used)
-      answer-is Held h =
+      answer_is Held h =
           let unused : busy (s.port p) ≡ false = ap busy (sym (sees.ports p h.0) ∙ h.2) in
           rw (lt-leb m.writes p h.0, lt-leb m.depth a h.1, unused, waiting_held a h.3)
 

@@ -40,7 +40,7 @@ pub record OneRan {M W : Type 0} (zero : W) (ordered : M → Type 0) (meaning : 
   pub rest : drop t.tried t.new ≡ drop t.tried t.old
 
 -- what two runs on two memories give: each what one run gives, and they agree
-pub record BothRan {M N W : Type 0} (zero : W) (ordered-M : M → Type 0) (meaning-M : M → Meaning W) (ordered-N : N → Type 0) (meaning-N : N → Meaning W) (t : Trial M W) (u : Trial N W) : Type 0 where
-  pub one : OneRan zero ordered-M meaning-M t
-  pub two : OneRan zero ordered-N meaning-N u
-  pub agree : Agree (tried_calls t) (tried_calls u) (given_answers t) (given_answers u) (meaning-M t.after) (meaning-N u.after)
+pub record BothRan {M N W : Type 0} (zero : W) (ordered_m : M → Type 0) (meaning_m : M → Meaning W) (ordered_n : N → Type 0) (meaning_n : N → Meaning W) (t : Trial M W) (u : Trial N W) : Type 0 where
+  pub one : OneRan zero ordered_m meaning_m t
+  pub two : OneRan zero ordered_n meaning_n u
+  pub agree : Agree (tried_calls t) (tried_calls u) (given_answers t) (given_answers u) (meaning_m t.after) (meaning_n u.after)

@@ -1,3 +1,3 @@
 pub mod Width
 pub mod Words
-pub mod Halves
+pub mod Tidy

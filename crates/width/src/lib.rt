@@ -10,7 +10,7 @@ ghost use Rattle.memory.specs.Calls.{Read, Write, Edged};
 ghost use Rattle.node.specs.declared.node.Layer.TheVariants.{Width as own};
 ghost use Rattle.joint.specs.Piles.{Configured, Made, Measured};
 ghost use Rattle.width.specs.Width.{InOrder, Unmoved, meant};
-ghost use Rattle.width.specs.Halves.{tidy_layer};
+ghost use Rattle.width.specs.Tidy.{tidy_layer};
 ghost use Rattle.std.specs.Prelude.{refl};
 ghost use Rattle.joint.proofs.Piles.{planned_layer};
 

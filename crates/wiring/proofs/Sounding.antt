@@ -52,7 +52,7 @@ sound_macros ns t h = number_stable t.macros (plans.macro_count ns) (λ other. �
 
 -- and it is a plan
 sound_plan : (ns : List Node) (t : Top) → ∥ Sound ns (Some t) ∥₁ → (plans.Plan ns t.shape → ⊥) → ⊥
-sound_plan ns t h no-plan = ∥∥₁_elim h ⊥_prop (λ s. no-plan s.0.1)
+sound_plan ns t h no_plan = ∥∥₁_elim h ⊥_prop (λ s. no_plan s.0.1)
 
 -- memories that are one memory
 one_part : {ns : List Node} {ls : List (List ℕ)} (ps : List Part) (s : Shape) → ((shapes ps ≡ s ∷ [] → ⊥) → ⊥) → Parts ns ps ls → Wired 0 ns s ls

@@ -84,7 +84,7 @@ pub trait Group: Word {
 
     ghost minus: { Self → Self → Self };
 
-    /// The sum. What a group has to say of `Word`'s zero and letter stands here: a law cannot name them.
+    /// The sum. What a group has to say of `Word`'s zero and letter stands here.
     fn sum(self, other: Self) -> Self
         ensures value { result ≡ plus self other }
         ensures unit { (u : Self) → plus u Self.Word.nought ≡ u }

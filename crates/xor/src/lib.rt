@@ -9,7 +9,7 @@ ghost use Rattle.memory.specs.Calls.{Read, Write, Edged};
 ghost use Rattle.node.specs.declared.node.Layer.TheVariants.{Xor as own};
 ghost use Rattle.joint.specs.Piles.{Configured, Made};
 ghost use Rattle.xor.specs.Xor.{InOrder, Unmoved, meant};
-ghost use Rattle.xor.specs.Halves.{tidy_layer};
+ghost use Rattle.xor.specs.Tidy.{tidy_layer};
 ghost use Rattle.std.specs.Prelude.{refl};
 ghost use Rattle.joint.proofs.Piles.{planned_layer};
 

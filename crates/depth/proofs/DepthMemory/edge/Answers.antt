@@ -1,5 +1,5 @@
 use Rattle.std.proofs.Common.{rules}
-use Rattle.depth.specs.Halves.{edge_both}
+use Rattle.depth.proofs.Halves.{edge_both}
 use Rattle.depth.proofs.DepthMemory.edge.Goals as goal
 
 pub returns-then-self-gt0 : goal.returns-then-self-gt0

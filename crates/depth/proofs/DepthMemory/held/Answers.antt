@@ -1,5 +1,5 @@
 use Rattle.joint.proofs.Piles.{live_write}
-use Rattle.depth.specs.Halves.{held_layer}
+use Rattle.depth.proofs.Halves.{held_layer}
 use Rattle.depth.proofs.DepthMemory.held.Goals as goal
 
 pub returns-then-port-self : goal.returns-then-port-self

@@ -1,6 +1,6 @@
 use Rattle.std.proofs.Common.{rules}
 use Rattle.joint.proofs.Piles.{live_read}
-use Rattle.depth.specs.Halves.{read_placed}
+use Rattle.depth.proofs.Halves.{read_placed}
 use Rattle.depth.proofs.DepthMemory.read.Goals as goal
 
 pub returns : goal.returns

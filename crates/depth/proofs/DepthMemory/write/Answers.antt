@@ -1,6 +1,6 @@
 use Rattle.std.proofs.Common.{rules}
 use Rattle.joint.proofs.Piles.{live_write}
-use Rattle.depth.specs.Halves.{write_placed}
+use Rattle.depth.proofs.Halves.{write_placed}
 use Rattle.depth.proofs.DepthMemory.write.Goals as goal
 
 pub returns : goal.returns

@@ -1,6 +1,6 @@
 use Rattle.std.proofs.Common.{◌≡◌, ◌+◌, ◌<◌, refl, rules}
 use Rattle.joint.proofs.Piles.{live_write}
-use Rattle.lvt.specs.Halves.{write_first, write_second}
+use Rattle.lvt.proofs.Halves.{write_first, write_second}
 use Rattle.lvt.proofs.Lvt.store.Goals as goal
 
 pub returns-in-First-default : goal.returns-in-First-default

@@ -1,7 +1,7 @@
 use Rattle.std.proofs.Common.{◌≡◌, length, arith, rules}
 use Rattle.node.specs.Limits.{max_marks}
 use Rattle.lvt.specs.Lvt.{InOrder, Moved}
-use Rattle.lvt.specs.Halves.{edge_both, moved}
+use Rattle.lvt.proofs.Halves.{edge_both, moved}
 use Rattle.lvt.proofs.LvtMemory.edge.Goals as goal
 
 pub returns-then-self-gt0 : goal.returns-then-self-gt0

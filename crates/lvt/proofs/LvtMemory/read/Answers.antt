@@ -2,7 +2,7 @@ use Rattle.std.proofs.Common.{refl, ap, ◌∙◌, rules}
 use Rattle.joint.proofs.Piles.{live_read}
 use Rattle.lvt.specs.declared.Half.{Half}
 use Rattle.lvt.specs.Lvt.{pick}
-use Rattle.lvt.specs.Halves.{read_both}
+use Rattle.lvt.proofs.Halves.{read_both}
 use Rattle.lvt.proofs.LvtMemory.read.Goals as goal
 
 pub returns : goal.returns

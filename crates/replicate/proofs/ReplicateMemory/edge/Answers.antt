@@ -1,5 +1,5 @@
 use Rattle.std.proofs.Common.{rules}
-use Rattle.replicate.specs.Halves.{edge_both}
+use Rattle.replicate.proofs.Halves.{edge_both}
 use Rattle.replicate.proofs.ReplicateMemory.edge.Goals as goal
 
 pub returns-then-self-gt0 : goal.returns-then-self-gt0

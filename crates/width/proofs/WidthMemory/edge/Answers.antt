@@ -1,5 +1,5 @@
 use borrow.Author.Rules.{rules}
-use Rattle.width.specs.Halves.{edge_layer}
+use Rattle.width.proofs.Halves.{edge_layer}
 use Rattle.width.proofs.WidthMemory.edge.Goals as goal
 
 pub returns-then-self-gt0 : goal.returns-then-self-gt0

@@ -1,6 +1,6 @@
 use Rattle.std.proofs.Common.{rules}
 use Rattle.xor.specs.Xor.{InOrder}
-use Rattle.xor.specs.Halves.{edge_layer}
+use Rattle.xor.proofs.Halves.{edge_layer}
 use Rattle.xor.proofs.XorMemory.edge.Goals as goal
 
 pub returns-then-self-gt0 : goal.returns-then-self-gt0

@@ -1,7 +1,7 @@
 use Rattle.std.proofs.Common.{rules}
 use Rattle.joint.proofs.Piles.{live_read}
 use Rattle.xor.specs.Xor.{InOrder}
-use Rattle.xor.specs.Halves.{read_layer}
+use Rattle.xor.proofs.Halves.{read_layer}
 use Rattle.xor.proofs.XorMemory.read.Goals as goal
 
 pub returns : goal.returns

@@ -1,7 +1,7 @@
 use Rattle.std.proofs.Common.{◌-◌, arith, rules}
 use Rattle.joint.proofs.Piles.{live_write}
 use Rattle.xor.specs.Xor.{InOrder}
-use Rattle.xor.specs.Halves.{put_first, put_second}
+use Rattle.xor.proofs.Halves.{put_first, put_second}
 use Rattle.xor.proofs.XorMemory.write.Goals as goal
 
 pub returns-then-port-first : goal.returns-then-port-first

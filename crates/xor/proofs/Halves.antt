@@ -8,18 +8,14 @@ use Rattle.memory.specs.Meaning.{Meaning, Port, free, holding, address, SameWord
 use Rattle.memory.specs.Calls.{Idle, MayRead, MayWrite, Read, Write, Edged}
 use Rattle.joint.specs.declared.sizes.Joint.{Joint}
 use Rattle.joint.specs.Piles.{Agreed}
-use Rattle.joint.proofs.Piles.{agreed_still, live_write, same_layer}
-use Rattle.joint.proofs.Sides.{Side, of_first, of_second, side, beside_first, beside_second}
+use Rattle.joint.proofs.Piles.{agreed_still, same_layer}
+use Rattle.joint.proofs.Sides.{of_first, of_second}
 use Rattle.xor.specs.Xor.{Paired, Put, ReadBoth, added, busy, recovery, xor}
-use Rattle.xor.specs.Pairs.{Numbers, numbers, numbers_turned, turned, paired_turned, paired_read, paired_put, paired_edge}
+use Rattle.xor.proofs.Pairs.{numbers_turned, turned, paired_turned, paired_read, paired_put, paired_edge}
+use Rattle.xor.specs.Tidy.{Numbers, numbers, address_added, which, at_first, at_second}
 
 -- a write port with something added to the word that it holds
 module _ {W : Type 0} where
-  -- it holds the same address
-  address_added : (sum : ℕ → W → W) (o : Port W) → address (added sum o) ≡ address o
-  address_added sum free = refl
-  address_added sum (holding x u) = refl
-
   -- it is free only if it was
   free_added : (sum : ℕ → W → W) (o : Port W) → added sum o ≡ free → o ≡ free
   free_added sum free e = refl
@@ -36,55 +32,13 @@ module _ {W : Type 0} where
   same_added sum sum' (holding x u) o' e h = ap (added sum') e ∙ ap (holding x) (h x refl u)
 
 module _ {W : Type 0} (plus : W → W → W) (j : Joint) where
-  -- the ports of the layer
   module _ (a b : Meaning W) where
-    abbrev first_port : ℕ → Port W
-    first_port w = added (λ x u. plus u (b.word x)) (a.port w)
-
-    abbrev second_port : ℕ → Port W
-    second_port w = added (λ x u. plus (a.word x) u) (b.port w)
-
-    -- which half a port is of
-    which : (q : ℕ) → q < j.first.writes + j.second.writes → Side j.first.writes j.second.writes first_port second_port q
-    which q h = side j.first.writes j.second.writes first_port second_port q h
-
-    at_first : (q : ℕ) → q < j.first.writes → (xor plus j a b).port q ≡ first_port q
-    at_first q h = beside_first j.first.writes first_port second_port q h
-
-    at_second : (q i : ℕ) → q ≡ j.first.writes + i → (xor plus j a b).port q ≡ second_port i
-    at_second q i e = beside_second j.first.writes first_port second_port q i e
-
     -- an address that the layer does not hold is held by neither half
     idle_first : (x : ℕ) → Numbers j a b → Idle (xor plus j a b) x → Idle a x
-    idle_first x n idle q h e = idle q (omega arith) (ap address (at_first q (omega arith)) ∙ address_added (λ x u. plus u (b.word x)) (a.port q) ∙ e)
+    idle_first x n idle q h e = idle q (omega arith) (ap address (at_first plus j a b q (omega arith)) ∙ address_added (λ x u. plus u (b.word x)) (a.port q) ∙ e)
 
     idle_second : (x : ℕ) → Numbers j a b → Idle (xor plus j a b) x → Idle b x
-    idle_second x n idle i h e = idle (j.first.writes + i) (omega arith) (ap address (at_second (j.first.writes + i) i refl) ∙ address_added (λ x u. plus (a.word x) u) (b.port i) ∙ e)
-
-    -- what a port holds, its half holds
-    held_first : (q x : ℕ) → (xor plus j a b).port q ≡ first_port q → address ((xor plus j a b).port q) ≡ Some x → address (a.port q) ≡ Some x
-    held_first q x d e = sym (address_added (λ x u. plus u (b.word x)) (a.port q)) ∙ ap address (sym d) ∙ e
-
-    held_second : (q i x : ℕ) → (xor plus j a b).port q ≡ second_port i → address ((xor plus j a b).port q) ≡ Some x → address (b.port i) ≡ Some x
-    held_second q i x d e = sym (address_added (λ x u. plus (a.word x) u) (b.port i)) ∙ ap address (sym d) ∙ e
-
-    tidy_live : Numbers j a b → Paired j a b → Tidy a → Tidy b → Tidy (xor plus j a b)
-    tidy_live n h s t = record {
-      within = λ q x hq e. elim (which q (omega arith)) [
-        | of_first m d ↦ (let l = s.within q x (omega arith) (held_first q x d e) in omega arith)
-        | of_second i m k d ↦ (let l = t.within i x (omega arith) (held_second q i x d e) in omega arith)
-      ];
-      apart = λ q q' x hq hq' e e'. elim (which q (omega arith)) [
-        | of_first m d ↦ elim (which q' (omega arith)) [
-          | of_first m' d' ↦ s.apart q q' x (omega arith) (omega arith) (held_first q x d e) (held_first q' x d' e')
-          | of_second i' m' k' d' ↦ absurd (h.apart q i' x m m' (held_first q x d e) (held_second q' i' x d' e'))
-        ]
-        | of_second i m k d ↦ elim (which q' (omega arith)) [
-          | of_first m' d' ↦ absurd (h.apart q' i x m' m (held_first q' x d' e') (held_second q i x d e))
-          | of_second i' m' k' d' ↦ (let l = t.apart i i' x (omega arith) (omega arith) (held_second q i x d e) (held_second q' i' x d' e') in omega arith)
-        ]
-      ];
-    }
+    idle_second x n idle i h e = idle (j.first.writes + i) (omega arith) (ap address (at_second plus j a b (j.first.writes + i) i refl) ∙ address_added (λ x u. plus (a.word x) u) (b.port i) ∙ e)
 
   -- halves that keep their words
   module _ (a b a' b' : Meaning W) (n : Numbers j a b) (s : SameWords a a') (t : SameWords b b') where
@@ -96,22 +50,15 @@ module _ {W : Type 0} (plus : W → W → W) (j : Joint) where
 
     first_still : (q : ℕ) → Tidy a → q < j.first.writes → a'.port q ≡ a.port q → (xor plus j a' b').port q ≡ (xor plus j a b).port q
     first_still q tidy h e =
-        at_first a' b' q h
+        at_first plus j a' b' q h
         ∙ same_added (λ x u. plus u (b.word x)) (λ x u. plus u (b'.word x)) (a.port q) (a'.port q) e (λ y held u. ap (plus u) (t.words y (let l = tidy.within q y (omega arith) held in omega arith)))
-        ∙ sym (at_first a b q h)
+        ∙ sym (at_first plus j a b q h)
 
     second_still : (q i : ℕ) → Tidy b → i < j.second.writes → q ≡ j.first.writes + i → b'.port i ≡ b.port i → (xor plus j a' b').port q ≡ (xor plus j a b).port q
     second_still q i tidy h k e =
-        at_second a' b' q i k
+        at_second plus j a' b' q i k
         ∙ same_added (λ x u. plus (a.word x) u) (λ x u. plus (a'.word x) u) (b.port i) (b'.port i) e (λ y held u. ap (λ (v : W). plus v u) (s.words y (let l = tidy.within i y (omega arith) held in omega arith)))
-        ∙ sym (at_second a b q i k)
-
--- held addresses are those of the halves, which hold none both
-pub tidy_layer : {W : Type 0} (plus : W → W → W) (k : Letter) (j : Joint) (a b : Meaning W) → (0 < j.own.depth → Tidy a × Tidy b × Agreed own k j a b × Paired j a b) → Tidy (xor plus j a b)
-tidy_layer plus k j a b h = record {
-  within = λ q x hq e. (let g = h (live_write j q hq) in (tidy_live plus j a b (numbers k j a b g.2) g.3 g.0 g.1).within q x hq e);
-  apart = λ q q' x hq hq' e e'. (let g = h (live_write j q hq) in (tidy_live plus j a b (numbers k j a b g.2) g.3 g.0 g.1).apart q q' x hq hq' e e');
-}
+        ∙ sym (at_second plus j a b q i k)
 
 -- a read through one port of both halves
 pub read_layer : {W : Type 0} (plus : W → W → W) (k : Letter) (j : Joint) (a b a' b' : Meaning W) (p x : ℕ) (r : Result W Refusal) → Agreed own k j a b → Paired j a b → Tidy a → Tidy b → MayRead (xor plus j a b) p x (Ok tt) → ReadBoth plus a b p x r a' b' → Read (xor plus j a b) p x r (xor plus j a' b') × Agreed own k j a' b' × Paired j a' b'

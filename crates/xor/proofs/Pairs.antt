@@ -1,46 +1,12 @@
 -- The numbers of a layer in order and what its halves share, said alike of both halves.
-use Rattle.std.specs.Prelude.{◌≡◌, ℕ, ◌+◌, ◌<◌, ◌≤◌, Some}
+use Rattle.std.specs.Prelude.{◌≡◌, ℕ, ◌<◌, Some}
 use Rattle.std.proofs.Common.{sym, ap, ◌∙◌, inl, inr, arith}
 use Rattle.std.proofs.lemmas.Bool.{cases_eq}
-use Rattle.word.specs.declared.Letter.{Letter}
-use Rattle.node.specs.declared.node.Layer.TheVariants.{Xor as own}
 use Rattle.memory.specs.Meaning.{Meaning, address}
 use Rattle.memory.specs.Calls.{Idle, Marked, Stored, Edged}
 use Rattle.joint.specs.declared.sizes.Joint.{Joint}
-use Rattle.joint.specs.Piles.{Agreed}
 use Rattle.xor.specs.Xor.{Paired, busy, recovery}
-
--- the ports and the depth; each half has read ports for the layer's and for the other half's write ports
-pub record Numbers {W : Type 0} (j : Joint) (a b : Meaning W) : Type 0 where
-  pub first_reads : a.reads ≡ j.first.reads
-  pub first_writes : a.writes ≡ j.first.writes
-  pub first_depth : a.depth ≡ j.own.depth
-  pub first_lends : j.own.reads + j.second.writes ≤ j.first.reads
-  pub second_reads : b.reads ≡ j.second.reads
-  pub second_writes : b.writes ≡ j.second.writes
-  pub second_depth : b.depth ≡ j.own.depth
-  pub second_lends : j.own.reads + j.first.writes ≤ j.second.reads
-  pub writes : j.own.writes ≡ j.first.writes + j.second.writes
-
-pub numbers : {W : Type 0} (k : Letter) (j : Joint) (a b : Meaning W) → Agreed own k j a b → Numbers j a b
-numbers k j a b g =
-    let f = g.matches.fits in
-    let m = g.first in
-    let n = g.second in
-    let r = g.reads in
-    let w = g.writes in
-    let d = g.depth in
-    record {
-      first_reads = omega arith;
-      first_writes = omega arith;
-      first_depth = omega arith;
-      first_lends = omega arith;
-      second_reads = omega arith;
-      second_writes = omega arith;
-      second_depth = omega arith;
-      second_lends = omega arith;
-      writes = omega arith;
-    }
+use Rattle.xor.specs.Tidy.{Numbers}
 
 -- the halves turned round
 abbrev pub turned : Joint → Joint

@@ -3,21 +3,14 @@ use Rattle.std.specs.Prelude.{◌≡◌, ℕ, ◌<◌}
 use Rattle.std.proofs.Common.{sym, ap, ◌∙◌, inl, inr, arith}
 use Rattle.word.specs.declared.Letter.{Letter}
 use Rattle.node.specs.declared.node.Layer.TheVariants.{Replicate as own}
-use Rattle.memory.specs.Meaning.{Meaning, address, Tidy}
+use Rattle.memory.specs.Meaning.{Meaning, address}
 use Rattle.memory.specs.Calls.{Edged}
 use Rattle.memory.proofs.Holds.{holds_or_idle}
 use Rattle.joint.specs.declared.sizes.Joint.{Joint}
 use Rattle.joint.specs.Piles.{Agreed}
-use Rattle.joint.proofs.Piles.{agreed_still, live_write, same_layer}
+use Rattle.joint.proofs.Piles.{agreed_still, same_layer}
 use Rattle.joint.proofs.Sides.{of_first, of_second, side, beside_first, beside_second}
 use Rattle.replicate.specs.Replicate.{Paired, replicated}
-
--- A's held addresses are the layer's
-pub tidy_layer : {W : Type 0} (k : Letter) (j : Joint) (a b : Meaning W) → (0 < j.own.depth → Tidy a × Agreed own k j a b) → Tidy (replicated j a b)
-tidy_layer k j a b h = record {
-  within = λ q x hq e. (let g = h (live_write j q hq) in let d = g.1.depth in let w = g.1.writes in let t = g.0.within q x (omega arith) e in omega arith);
-  apart = λ q q' x hq hq' e e'. (let g = h (live_write j q hq) in let w = g.1.writes in g.0.apart q q' x (omega arith) (omega arith) e e');
-}
 
 -- the same words land in both halves
 words_land : {W : Type 0} (k : Letter) (j : Joint) (a b a' b' : Meaning W) → Agreed own k j a b → Paired a b → Edged a a' → Edged b b' → (y : ℕ) → y < a.depth → b'.word y ≡ a'.word y
