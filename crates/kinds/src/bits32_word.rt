@@ -14,7 +14,7 @@ use word::{Group, Letter, Word};
 impl Bits32 {
     // The exclusive or of two words, which is their sum and their difference.
     fn xor(self, other: Bits32) -> Bits32
-        ensures { result.bits ≡ (bits32_xor self other).bits }
+        ensures { result ≡ bits32_xor self other }
     {
         Bits32::new(self.bits ^ other.bits)
     }
@@ -46,11 +46,7 @@ impl Word for Bits32 {
     }
 
     fn from_code(code: u64) -> Option<Bits32> {
-        if code <= Letter::H.last_code() {
-            Some(Bits32::new(code as u32))
-        } else {
-            None
-        }
+        u32::try_from(code).ok().map(Bits32::new)
     }
 }
 

@@ -2,6 +2,8 @@
 ghost use Rattle.std.specs.Prelude.{◌≡◌, ◌<◌, ◌^◌};
 
 /// A word of 64 bits.
+// A type of its own beside that of 32 bits: one over the number types would ask of u32 and u64, by a trait, all that
+// `Word` and `Group` ask, and so say it twice.
 #[derive(Clone, Copy, PartialEq, Eq)]
 pub struct Bits64 {
     pub(crate) bits: u64,

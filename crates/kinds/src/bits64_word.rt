@@ -14,7 +14,7 @@ use word::{Group, Letter, Word};
 impl Bits64 {
     // The exclusive or of two words, which is their sum and their difference.
     fn xor(self, other: Bits64) -> Bits64
-        ensures { result.bits ≡ (bits64_xor self other).bits }
+        ensures { result ≡ bits64_xor self other }
     {
         Bits64::new(self.bits ^ other.bits)
     }

@@ -33,10 +33,9 @@ impl Word for Order {
     }
 
     fn from_code(code: u64) -> Option<Order> {
-        if code <= Letter::O.last_code() {
-            Some(Order::new((code / 1_000) as u8, (code % 1_000) as u16))
-        } else {
-            None
-        }
+        (code <= Letter::O.last_code()).then(|| Order::new(
+            (code / 1_000) as u8,
+            (code % 1_000) as u16,
+        ))
     }
 }

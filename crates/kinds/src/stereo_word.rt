@@ -12,8 +12,7 @@ use word::{Group, Letter, Word};
 impl Stereo {
     // The sum of two words, side by side.
     fn plus(self, other: Stereo) -> Stereo
-        ensures left { result.left ≡ (stereo_plus self other).left }
-        ensures right { result.right ≡ (stereo_plus self other).right }
+        ensures { result ≡ stereo_plus self other }
     {
         Stereo::new(
             self.left.wrapping_add(other.left),
@@ -21,10 +20,10 @@ impl Stereo {
         )
     }
 
-    // The difference of two words, side by side.
+    // The difference of two words, side by side. One function for both, with the step as a closure, would owe its
+    // word by what the closure gives.
     fn minus(self, other: Stereo) -> Stereo
-        ensures left { result.left ≡ (stereo_minus self other).left }
-        ensures right { result.right ≡ (stereo_minus self other).right }
+        ensures { result ≡ stereo_minus self other }
     {
         Stereo::new(
             self.left.wrapping_sub(other.left),
@@ -59,11 +58,10 @@ impl Word for Stereo {
     }
 
     fn from_code(code: u64) -> Option<Stereo> {
-        if code <= Letter::S.last_code() {
-            Some(Stereo::new((code / 65_536) as u16, (code % 65_536) as u16))
-        } else {
-            None
-        }
+        (code <= Letter::S.last_code()).then(|| Stereo::new(
+            (code / 65_536) as u16,
+            (code % 65_536) as u16,
+        ))
     }
 }
 

@@ -1,33 +1,14 @@
 -- Fields and lines in a list of bytes.
-use Rattle.std.proofs.Common.{◌≡◌, ℕ, ◌+◌, ◌≤◌, Bool, true, not, ◌&&◌, eqb, List, [], ◌∷◌, ◌++◌, length, get_or, drop, sym, refl, ap, ◌∙◌, add-one, arith, length-append}
-use Rattle.std.specs.List.{AllByRecursion, between}
-use Rattle.std.proofs.ByRecursion.{All-get_or}
-use Rattle.std.proofs.lemmas.Bool.{and_parts, not-true, eqb-false}
+use Rattle.std.proofs.Common.{◌≡◌, ℕ, zero, suc, ◌+◌, ◌/◌, ◌%◌, Bool, true, false, not, ◌&&◌, eqb, ltb, List, [], ◌∷◌, ◌++◌, length, get_or, decimal, sym, refl, ap, ◌∙◌, add-one, arith, length-append}
+use Rattle.std.specs.Fmt.{digits, digits_onto, digit_glyph}
+use Rattle.std.specs.List.{AllByRecursion}
+use Rattle.std.proofs.ByRecursion.{All-append, All-get_or}
+use Rattle.std.proofs.lemmas.Bool.{and_parts, cond_both, not-true, eqb-false}
 use Rattle.std.specs.Str.Iter.{LacksByte}
-use Rattle.std.proofs.lemmas.List.{drop_more, drop_all, get_or_at}
-use Rattle.std.proofs.lemmas.Slice.{between_to_end}
+use Rattle.std.proofs.lemmas.List.{get_or_at}
 use Rattle.std.proofs.lemmas.Str.Parse.{not_in_digits}
 use Rattle.text.specs.Numbers.{Canonical}
 use Rattle.text.proofs.Numerals.{own}
-
--- from i on, xs reads as ys
-abbrev pub ReadsFrom : List ℕ → ℕ → List ℕ → Type 0
-ReadsFrom xs i [] = Unit {0}
-ReadsFrom xs i (y ∷ ys) = (get_or xs i 0 ≡ y) × ReadsFrom xs (i + 1) ys
-
-pub spelled_from : (xs : List ℕ) (i : ℕ) (ys : List ℕ) → i + length ys ≡ length xs → ReadsFrom xs i ys → drop i xs ≡ ys
-spelled_from xs i [] n h = drop_all i xs (omega arith)
-spelled_from xs i (y ∷ ys) n h =
-    drop_more xs i 0 (omega arith) ∙ (λ j. h.0 j ∷ spelled_from xs (i + 1) ys (omega arith) h.1 j)
-
--- a list that reads as another is that list
-pub spelled : (xs ys : List ℕ) → length xs ≡ length ys → ReadsFrom xs 0 ys → xs ≡ ys
-spelled xs ys n h = spelled_from xs 0 ys (omega arith) h
-
--- two bytes, and what follows
-pub two_rest : (xs : List ℕ) (a b : ℕ) → 2 ≤ length xs → get_or xs 0 0 ≡ a → get_or xs 1 0 ≡ b → xs ≡ a ∷ b ∷ between 2 (length xs) xs
-two_rest xs a b n e f =
-    drop_more xs 0 0 (omega arith) ∙ (λ j. e j ∷ (drop_more xs 1 0 (omega arith) ∙ (λ k. f k ∷ sym (between_to_end xs 2 (length xs) (omega arith)) k)) j)
 
 -- a list is cut at the first s in one way
 pub same_cut : (s : ℕ) (f g r t : List ℕ) → f ++ (s ∷ r) ≡ g ++ (s ∷ t) → LacksByte s f → LacksByte s g → (f ≡ g) × (r ≡ t)
@@ -70,3 +51,23 @@ lacks_from_free s bs h k l e = All-get_or (λ b. b ≡ s → ⊥) bs k 0 l h e
 
 pub lacks_by_test : (s : ℕ) (bs : List ℕ) → free s bs ≡ true → LacksByte s bs
 lacks_by_test s bs e = lacks_from_free s bs (free_by_test s bs e)
+
+-- no digit is an end of line
+glyph_free : (d : ℕ) → digit_glyph false d ≡ 10 → ⊥
+glyph_free d = cond_both (ltb d 10) (48 + d) (87 + d) (λ (b : ℕ). b ≡ 10 → ⊥) (λ _ e. omega arith) (λ _ e. omega arith)
+
+digits_free : (k n : ℕ) (acc : List ℕ) → Free 10 acc → Free 10 (digits_onto k 10 false n acc)
+digits_free zero n acc h = h
+digits_free (suc k) n acc h =
+    cond_both (eqb (n / 10) 0) (digit_glyph false (n % 10) ∷ acc) (digits_onto k 10 false (n / 10) (digit_glyph false (n % 10) ∷ acc)) (Free 10)
+    (λ _. (glyph_free (n % 10), h))
+    (λ _. digits_free k (n / 10) (digit_glyph false (n % 10) ∷ acc) (glyph_free (n % 10), h))
+
+-- so no number holds one
+pub free_decimal : (n : ℕ) → Free 10 (decimal n)
+unfolding digits
+free_decimal n = digits_free 64 n [] tt
+
+-- nor do fields with a TAB between them
+pub free_then : (a b : List ℕ) → Free 10 a → Free 10 b → Free 10 (a ++ (9 ∷ b))
+free_then a b h k = All-append (λ c. c ≡ 10 → ⊥) a (9 ∷ b) h ((λ e. omega arith), k)

@@ -1,8 +1,6 @@
 -- A line buffer keeps the first bytes of what is added to it.
-use Rattle.std.proofs.Common.{◌≡◌, ℕ, zero, suc, ◌+◌, ◌-◌, ◌%◌, ◌<◌, ◌≤◌, min, List, [], ◌∷◌, ◌++◌, length, take, set, decimal, sym, refl, ap, ◌∙◌, subst, ⊎_elim, append_assoc, append-nil, arith, length-take}
-use Rattle.std.proofs.lemmas.Fmt.{decimal_digit}
+use Rattle.std.proofs.Common.{◌≡◌, ℕ, zero, suc, ◌+◌, ◌<◌, ◌≤◌, List, [], ◌∷◌, ◌++◌, length, take, set, sym, refl, ap, ◌∙◌, subst, append_assoc, append-nil, arith, length-take}
 use Rattle.std.proofs.lemmas.List.{length-take-le, length_push, take_all, take-append-le, take_more_set}
-use Rattle.std.proofs.lemmas.Bool.{cases_lt}
 use Rattle.text.specs.Lines.{capped, Adds}
 
 -- what the front of a list keeps, the front of a longer one keeps
@@ -55,15 +53,3 @@ byte_lost bytes len byte full over =
     record {
       is = e ∙ sym (ap (λ (bs : List ℕ). capped (bs ++ (byte ∷ []))) e ∙ take-append-le 64 bytes (byte ∷ []) (omega arith) ∙ take_all 64 bytes (omega arith));
     }
-
--- the bytes that a line holds, as a part of its buffer
-pub held_front : (bytes : List ℕ) (len end : ℕ) → length bytes ≡ 64 → end ≡ min len 64 → take (end - 0) bytes ≡ take len bytes
-held_front bytes len end full e =
-    ⊎_elim
-    (λ (room : len < 64). let same : end - 0 ≡ len = omega arith in ap (λ (k : ℕ). take k bytes) same)
-    (λ (over : 64 ≤ len). take_all (end - 0) bytes (omega arith) ∙ sym (take_all len bytes (omega arith)))
-    (cases_lt len 64)
-
--- a number is its front and its last digit
-pub one_digit : (n : ℕ) → n < 10 → (48 + n % 10) ∷ [] ≡ decimal n
-one_digit n small = sym (decimal_digit n small ∙ ap (λ (d : ℕ). (48 + d) ∷ []) (omega arith))

@@ -23,9 +23,9 @@ pub trait Fault {
 #[derive(Clone, Copy)]
 pub enum LineFault {
     /// Not of the format.
-    Malformed,
+    Malformed = 5,
     /// Of the format, with a number beyond its range.
-    OutOfRange,
+    OutOfRange = 6,
 }
 
 impl LineFault {
@@ -33,9 +33,6 @@ impl LineFault {
     pub fn number(self) -> u8
         ensures { result ≡ line_fault self }
     {
-        match self {
-            LineFault::Malformed => 5,
-            LineFault::OutOfRange => 6,
-        }
+        self as u8
     }
 }

@@ -7,6 +7,7 @@ use crate::numbers::number;
 pub fn cut(bytes: &[u8], separator: u8) -> Option<(&[u8], &[u8])>
     ensures { Cut separator bytes.now result }
 {
+    // By slice patterns, a rule of the project: they give a line's first field and the rest from its bytes.
     let mut left = bytes;
     let mut count = 0;
     while let [first, rest @ ..] = left {

@@ -8,11 +8,13 @@ mod faults;
 mod fields;
 mod line;
 mod numbers;
+mod text_lines;
 
 pub use faults::{Fault, LineFault, Report};
 pub use fields::{cut, number_field};
 pub use line::{LineBuffer, put};
 pub use numbers::number;
+pub use text_lines::TextLines;
 
 /// The largest number of bytes that a text may have.
 pub const MAX_BYTES: usize = 65_536;

@@ -2,16 +2,20 @@
 ghost use Rattle.std.specs.Prelude.{◌≡◌, [], ◌∷◌, decimal};
 ghost use Rattle.text.specs.Lines.{line_text, Adds, PutAt};
 
+use itoa::Buffer;
+
 /// The largest number of bytes that a line buffer holds. No format has a longer line.
 const LINE_BYTES: usize = 64;
 
 /// A line that is being made up. It keeps the first 64 bytes of what is added to it.
+// An array with a length beside it: no line is on a heap, and the type is `Copy` to its users, as no `ArrayVec` is.
 #[derive(Clone, Copy)]
 pub struct LineBuffer {
     bytes: [u8; LINE_BYTES],
     len: usize,
 }
 
+// Lines are printed by these and not by `write!`, which would give a result to judge where no line can fail.
 impl LineBuffer {
     /// A line with nothing in it.
     pub fn new() -> LineBuffer
@@ -49,12 +53,7 @@ impl LineBuffer {
     pub fn number(self, n: u64) -> LineBuffer
         ensures { Adds (line_text self) (decimal n) (line_text result) }
     {
-        let last = b'0' + (n % 10) as u8;
-        if n < 10 {
-            self.byte(last)
-        } else {
-            self.number(n / 10).byte(last)
-        }
+        self.word(Buffer::new().format(n).as_bytes())
     }
 
     /// The bytes of the line.

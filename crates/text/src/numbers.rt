@@ -23,9 +23,7 @@ pub fn number(field: &[u8]) -> Option<u128>
     }
     let mut n = 0u128;
     for b in field {
-        let Some(d) = digit(*b) else {
-            return None;
-        };
+        let d = digit(*b)?;
         n = n * 10 + d as u128;
     }
     Some(n)

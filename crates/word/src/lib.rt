@@ -8,10 +8,11 @@ ghost use Rattle.std.specs.Prelude.{◌≡◌, ℕ, ◌≤◌, true, MatchOption
 ghost use Rattle.word.specs.declared.Letter.{Letter};
 ghost use Rattle.word.specs.Letters.{last_code, summed};
 
-/// The letter of a word kind, as plans write it.
-#[derive(Clone, Copy, PartialEq, Eq, Debug)]
+/// The letter of a word kind, as plans write it. The default means nothing: it fills places that hold no plan yet.
+#[derive(Clone, Copy, PartialEq, Eq, Debug, Default)]
 pub enum Letter {
     /// 32 bits.
+    #[default]
     H,
     /// 64 bits.
     B,
