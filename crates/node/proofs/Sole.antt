@@ -32,9 +32,9 @@ taken_sole st (layer_node l) out out' (a, b, rest, was, fit, is) (a', b', rest',
 -- a node that is taken is not refused
 taken_stays : (st : List Shape) (n : Node) (out : List Shape) (f : NodeFault) → Taken st n out → NodeRefused st n f → ⊥
 taken_stays st (macro_node m) out OutOfRange (ranged, is) (m', e, out_of_lem) = let same : m ≡ m' = cc in out_of_lem (subst InRange same ranged)
-taken_stays st (macro_node m) out TooFewMemories (ranged, is) (l, e, few) = let clash : ◌≡◌ {A = ℕ} 0 1 = cc in omega arith
-taken_stays st (macro_node m) out Unfit (ranged, is) (l, a, b, rest, e, was, unfit) = let clash : ◌≡◌ {A = ℕ} 0 1 = cc in omega arith
-taken_stays st (layer_node l) out OutOfRange (a, b, rest, was, fit, is) (m, e, out_of_lem) = let clash : ◌≡◌ {A = ℕ} 0 1 = cc in omega arith
+taken_stays st (macro_node m) out TooFewMemories (ranged, is) (l, e, few) = cc
+taken_stays st (macro_node m) out Unfit (ranged, is) (l, a, b, rest, e, was, unfit) = cc
+taken_stays st (layer_node l) out OutOfRange (a, b, rest, was, fit, is) (m, e, out_of_lem) = cc
 taken_stays st (layer_node l) out TooFewMemories (a, b, rest, was, fit, is) (l', e, few) = omega (arith, ap length was)
 taken_stays st (layer_node l) out Unfit (a, b, rest, was, fit, is) (l', a', b', rest', e, was', unfit) =
     let layers : l ≡ l' = cc in
@@ -74,10 +74,6 @@ plans_end : {ns after : List Node} {st : List Shape} {o : Outcome} → Plans ns 
 plans_end none rest = rest
 plans_end (then {st = st} before plan) rest = rw append_assoc (plans_end before (plan_ends st plan rest))
 
--- to go through is not to stop
-gone_or_stopped : (st : List Shape) (left : ℕ) (f : NodeFault) → gone st ≡ stopped left f → ⊥
-gone_or_stopped st left f e = let clash : ◌≡◌ {A = ℕ} 0 1 = cc in omega arith
-
 -- nodes are the nodes of the same memories in every way
 pub plans_sole : {ns : List Node} {st st' : List Shape} → Plans ns st → Plans ns st' → st ≡ st'
 plans_sole plans plans' = let same = ends_sole (rw append-nil at (plans_end plans all)) (rw append-nil at (plans_end plans' all)) in cc
@@ -85,7 +81,7 @@ plans_sole plans plans' = let same = ends_sole (rw append-nil at (plans_end plan
 -- nodes of which one is refused are no memories' nodes
 pub refused_none : {ns : List Node} {place : ℕ} {f : NodeFault} {st : List Shape} → FirstRefused ns place f → Plans ns st → ⊥
 refused_none {f = f} {st = st} first plans =
-    gone_or_stopped st (length first.after) f (ends_sole (rw append-nil at (plans_end plans all)) (rw first.split (plans_end first.taken (stops first.refused))))
+    let same : gone st ≡ stopped (length first.after) f = ends_sole (rw append-nil at (plans_end plans all)) (rw first.split (plans_end first.taken (stops first.refused))) in cc
 
 -- the answer to at most 64 nodes, by where the way through them ends
 answer : List Node → Outcome → Result Top CheckFault

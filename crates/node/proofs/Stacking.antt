@@ -1,31 +1,26 @@
 -- The steps of the check: what a node does to the stack, and to the plans that stand on it.
-use Rattle.std.proofs.Common.{◌≡◌, ℕ, zero, suc, ◌+◌, ◌-◌, ◌<◌, ◌≤◌, Bool, true, false, cond, List, [], ◌∷◌, ◌++◌, reverse, length, get_or, take, drop, set, sym, refl, ap, ◌∙◌, subst, append_assoc, arith}
-use Rattle.std.proofs.lemmas.List.{take_more, take_more_set, reverse-append, length-reverse, length-take-le, at_drop_more, drop_more, take-append-drop}
+use Rattle.std.proofs.Common.{◌≡◌, ℕ, ◌+◌, ◌-◌, ◌<◌, List, [], ◌∷◌, ◌++◌, reverse, length, get_or, take, drop, filter, Some, None, Ok, Err, Option, sym, refl, ap, ◌∙◌, subst, append_assoc, arith}
+use Rattle.std.specs.Option.{ok_or}
+use Rattle.std.proofs.lemmas.List.{take_more, take_all, reverse-append, drop_more, take-append-drop}
+use Rattle.node.specs.declared.faults.NodeFault.{NodeFault}
+use Rattle.node.specs.declared.faults.NodeFault.TheVariants.{Unfit}
 use Rattle.node.specs.declared.node.Node.{Node}
 use Rattle.node.specs.declared.node.Node.TheVariants.{Macro as macro_node, Layer as layer_node}
 use Rattle.node.specs.declared.node.Layer.{Layer}
 use Rattle.node.specs.declared.shape.Shape.{Shape}
-use Rattle.node.specs.Nodes.{Fits, over, is_macro}
+use Rattle.node.specs.Nodes.{Fits, Fitted, over, is_macro}
 use Rattle.node.specs.Plans.{Plan, single, layered, Plans, none, then, macro_count}
-use Rattle.node.specs.declared.stack.Stack.{Stack}
-use Rattle.node.specs.Stacks.{held, Covered, Taken}
+use Rattle.node.specs.Stacks.{Taken}
 
--- what is put on the first n is on top of them
-pub top_put : {X : Type 0} (xs : List X) (n : ℕ) (s : X) → n < length xs → reverse (take (n + 1) (set xs n s)) ≡ s ∷ reverse (take n xs)
-top_put xs n s room = ap reverse (take_more_set xs n s room) ∙ reverse-append (take n xs) (s ∷ [])
+-- halves of which no memory is made do not fit
+pub unfit : (l : Layer) (a b : Shape) (o : Option Shape) {f : NodeFault} → Fitted l a b o → Err f ≡ ok_or o Unfit → (f ≡ Unfit) × (Fits l a b → ⊥)
+unfit l a b None refused is = (cc, refused)
+unfit l a b (Some s) made is = absurd (cc)
 
--- the top of the first n + 1
-pub top_is : {X : Type 0} (xs : List X) (n : ℕ) (d : X) → n < length xs → reverse (take (n + 1) xs) ≡ get_or xs n d ∷ reverse (take n xs)
-top_is xs n d room = ap reverse (take_more xs n d room) ∙ reverse-append (take n xs) (get_or xs n d ∷ [])
-
--- the two on top
-pub two_on_top : {X : Type 0} (xs : List X) (n : ℕ) (d : X) → 2 ≤ n → n ≤ length xs → reverse (take n xs) ≡ get_or xs (n - 1) d ∷ (get_or xs (n - 2) d ∷ reverse (take (n - 2) xs))
-two_on_top {X} xs n d many room =
-    let e : n ≡ (n - 1) + 1 = omega arith in
-    let f : n - 1 ≡ (n - 2) + 1 = omega arith in
-    ap (λ (k : ℕ). reverse (take k xs)) e
-    ∙ top_is xs (n - 1) d (omega arith)
-    ∙ ap (λ (st : List X). get_or xs (n - 1) d ∷ st) (ap (λ (k : ℕ). reverse (take k xs)) f ∙ top_is xs (n - 2) d (omega arith))
+-- halves of which a memory is made fit
+pub fitted : (l : Layer) (a b : Shape) (o : Option Shape) {s : Shape} → Fitted l a b o → Ok s ≡ ok_or o Unfit → Fits l a b × (s ≡ over l a b)
+fitted l a b None refused is = absurd (cc)
+fitted l a b (Some t) (fit, here) is = (fit, cc)
 
 -- no memory has no nodes
 pub plans_of_none : {ns : List Node} → Plans ns [] → ns ≡ []
@@ -48,48 +43,35 @@ plans_more {ns} (macro_node m) before (ranged, is) = subst (Plans (ns ++ (macro_
 plans_more {ns} (layer_node l) before (a, b, rest, was, fit, is) =
     subst (Plans (ns ++ (layer_node l ∷ []))) (sym is) (join l (subst (Plans ns) was before) fit)
 
--- the stack holds as many as it counts
-pub held_length : {X : Type 0} (xs : List X) (n : ℕ) → n ≤ length xs → length (reverse (take n xs)) ≡ n
-held_length xs n room = length-reverse (take n xs) ∙ length-take-le n xs room
-
--- a shape on top of the first ones
-pub covered_held : (old new : Stack) (below : ℕ) (s : Shape) → Covered old below s new → below < length old.shapes → held new ≡ s ∷ reverse (take below old.shapes)
-covered_held old new below s h room = (λ i. reverse (take (h.0 i) (h.1 i))) ∙ top_put old.shapes below s room
-
--- a stack of one shape at most holds the plan of some nodes alone
-pub one_left : {ns : List Node} (xs : List Shape) (n : ℕ) (d : Shape) → Plans ns (reverse (take n xs)) → 0 < length ns → n ≤ 1 → 1 ≤ length xs → Plan ns (get_or xs 0 d)
-one_left xs zero d plans some few room = absurd (omega (arith, ap length (plans_of_none plans)))
-one_left {ns} xs (suc n) d plans some few room =
-    let e : suc n ≡ 0 + 1 = omega arith in
-    plan_of_one (subst (Plans ns) (ap (λ (k : ℕ). reverse (take k xs)) e ∙ top_is xs 0 d (omega arith)) plans)
+-- the last two of a list are the first two from its end
+pub two_on_top : {X : Type 0} (old mid new : List X) (a b : X) → old ≡ mid ++ (b ∷ []) → mid ≡ new ++ (a ∷ []) → reverse old ≡ b ∷ (a ∷ reverse new)
+two_on_top old mid new a b above below =
+    rw (above, below) (reverse-append (new ++ (a ∷ [])) (b ∷ []) ∙ ap (λ st. b ∷ st) (reverse-append new (a ∷ [])))
 
 -- nodes leave a memory
-pub some_held : {ns : List Node} (xs : List Shape) (n : ℕ) → Plans ns (reverse (take n xs)) → 0 < length ns → 1 ≤ n
-some_held xs zero plans some = absurd (omega (arith, ap length (plans_of_none plans)))
-some_held xs (suc n) plans some = omega arith
+pub some_held : {ns : List Node} (xs : List Shape) → Plans ns (reverse xs) → 0 < length ns → 0 < length xs
+some_held [] plans some = absurd (omega (arith, ap length (plans_of_none plans)))
+some_held (x ∷ xs) plans some = omega arith
+
+-- the one memory that nodes leave is their plan's
+pub one_left : {ns : List Node} (xs : List Shape) (d : Shape) → Plans ns (reverse xs) → length xs ≡ 1 → Plan ns (get_or xs 0 d)
+one_left [] d plans one = absurd (omega arith)
+one_left (x ∷ []) d plans one = plan_of_one plans
+one_left (x ∷ (y ∷ xs)) d plans one = absurd (omega arith)
 
 -- the memory on top
-pub top_held : {ns : List Node} (xs : List Shape) (n : ℕ) (d : Shape) → Plans ns (reverse (take n xs)) → 1 ≤ n → n ≤ length xs → Plans ns (get_or xs (n - 1) d ∷ reverse (take (n - 1) xs))
-top_held {ns} xs n d plans some room =
-    let e : n ≡ (n - 1) + 1 = omega arith in
-    subst (Plans ns) (ap (λ (k : ℕ). reverse (take k xs)) e ∙ top_is xs (n - 1) d (omega arith)) plans
-
--- a front, as a part of a slice
-pub part_front : (k : ℕ) (ns : List Node) → take (k - 0) ns ≡ take k ns
-part_front k ns = let e : k - 0 ≡ k = omega arith in ap (λ (j : ℕ). take j ns) e
+pub top_held : {ns : List Node} (xs : List Shape) (d : Shape) → Plans ns (reverse xs) → 0 < length xs → Plans ns (get_or xs (length xs - 1) d ∷ reverse (take (length xs - 1) xs))
+top_held {ns} xs d plans some =
+    let whole : xs ≡ take (length xs - 1 + 1) xs = sym (take_all (length xs - 1 + 1) xs (omega arith)) in
+    let split = ap reverse (whole ∙ take_more xs (length xs - 1) d (omega arith)) in
+    subst (Plans ns) (split ∙ reverse-append (take (length xs - 1) xs) (get_or xs (length xs - 1) d ∷ [])) plans
 
 -- the node at a place, between those before it and those after
 pub split_at : (ns : List Node) (i : ℕ) (d : Node) → i < length ns → ns ≡ take i ns ++ (get_or ns i d ∷ drop (i + 1) ns)
 split_at ns i d here = sym (take-append-drop i ns) ∙ ap (λ (qs : List Node). take i ns ++ qs) (drop_more ns i d here)
 
--- the macros among the nodes from a place on
-pub macro_here : (ns : List Node) (i : ℕ) (d : Node) → i < length ns → is_macro (get_or ns i d) ≡ true → macro_count (drop i ns) ≡ 1 + macro_count (drop (i + 1) ns)
-macro_here ns i d here e = at_drop_more macro_count ns i d here ∙ ap (λ (b : Bool). cond b 1 0 + macro_count (drop (i + 1) ns)) e
-
-pub layer_here : (ns : List Node) (i : ℕ) (d : Node) → i < length ns → is_macro (get_or ns i d) ≡ false → macro_count (drop i ns) ≡ 0 + macro_count (drop (i + 1) ns)
-layer_here ns i d here e = at_drop_more macro_count ns i d here ∙ ap (λ (b : Bool). cond b 1 0 + macro_count (drop (i + 1) ns)) e
-
-pub macro_bound : (ns : List Node) → macro_count ns ≤ length ns
-macro_bound [] = omega arith
-macro_bound (macro_node m ∷ ns) = omega (arith, macro_bound ns)
-macro_bound (layer_node l ∷ ns) = omega (arith, macro_bound ns)
+-- the macros among nodes
+pub length_macros : (ns : List Node) → length (filter is_macro ns) ≡ macro_count ns
+length_macros [] = refl
+length_macros (macro_node m ∷ ns) = grind (arith, length_macros ns)
+length_macros (layer_node l ∷ ns) = grind (arith, length_macros ns)

@@ -9,11 +9,11 @@ use text::{Fault, Report};
 #[derive(Clone, Copy)]
 pub enum NodeFault {
     /// A macro with a number out of its range.
-    OutOfRange,
+    OutOfRange = 6,
     /// A layer with fewer than two memories before it.
-    TooFewMemories,
+    TooFewMemories = 9,
     /// A layer over halves that do not fit.
-    Unfit,
+    Unfit = 10,
 }
 
 /// Why a plan does not pass.
@@ -34,11 +34,7 @@ impl NodeFault {
     pub fn number(self) -> u8
         ensures { result ≡ node_fault self }
     {
-        match self {
-            NodeFault::OutOfRange => 6,
-            NodeFault::TooFewMemories => 9,
-            NodeFault::Unfit => 10,
-        }
+        self as u8
     }
 }
 

@@ -1,5 +1,5 @@
 // Nodes of a plan.
-ghost use Rattle.std.specs.Prelude.{◌≡◌, Decides};
+ghost use Rattle.std.specs.Prelude.{◌≡◌, ◌↔◌, IsTrue};
 ghost use Rattle.node.specs.Nodes.{InRange, shape_of, is_macro};
 
 use crate::limits::{MAX_DEPTH, MAX_KIND, MAX_PORTS};
@@ -37,7 +37,7 @@ pub enum Node {
 impl Macro {
     /// Whether every number is in its range.
     pub fn is_in_range(&self) -> bool
-        ensures { Decides result (InRange self.now) }
+        ensures { IsTrue result ↔ InRange self.now }
     {
         matches!(
             (self.kind, self.reads, self.writes, self.depth),
@@ -63,9 +63,6 @@ impl Node {
     pub fn is_macro(&self) -> bool
         ensures { result ≡ is_macro self.now }
     {
-        match self {
-            Node::Macro(_) => true,
-            Node::Layer(_) => false,
-        }
+        matches!(self, Node::Macro(_))
     }
 }

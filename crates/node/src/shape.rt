@@ -6,8 +6,9 @@ use crate::limits::{MAX_DEPTH, MAX_MARKS, MAX_PORTS};
 use crate::node::Layer;
 use word::Letter;
 
-/// A memory's letter, its numbers of read and write ports, and its depth.
-#[derive(Clone, Copy)]
+/// A memory's letter, its numbers of read and write ports, and its depth. The default fills the places
+/// of a fixed buffer that hold no memory.
+#[derive(Clone, Copy, Default)]
 pub struct Shape {
     pub letter: Letter,
     pub reads: u8,
@@ -35,18 +36,14 @@ fn replicate(a: Shape, b: Shape) -> Option<Shape>
     ensures { Fitted Replicate a b result }
 {
     let reads = a.reads as u32 + b.reads as u32;
-    if a.letter == b.letter
+    let fits = a.letter == b.letter
         && a.depth == b.depth
         && a.writes == b.writes
-        && reads <= MAX_PORTS as u32
-    {
-        Some(Shape {
-            reads: reads as u8,
-            ..a
-        })
-    } else {
-        None
-    }
+        && reads <= MAX_PORTS as u32;
+    fits.then(|| Shape {
+        reads: reads as u8,
+        ..a
+    })
 }
 
 // The write ports of both halves; a mark for each address names the half that was written last.
@@ -54,19 +51,15 @@ fn lvt(a: Shape, b: Shape) -> Option<Shape>
     ensures { Fitted Lvt a b result }
 {
     let writes = a.writes as u32 + b.writes as u32;
-    if a.letter == b.letter
+    let fits = a.letter == b.letter
         && a.depth == b.depth
         && a.depth <= MAX_MARKS
         && a.reads == b.reads
-        && writes <= MAX_PORTS as u32
-    {
-        Some(Shape {
-            writes: writes as u8,
-            ..a
-        })
-    } else {
-        None
-    }
+        && writes <= MAX_PORTS as u32;
+    fits.then(|| Shape {
+        writes: writes as u8,
+        ..a
+    })
 }
 
 // The write ports of both halves; each takes a recovery read of the other half.
@@ -74,22 +67,17 @@ fn xor(a: Shape, b: Shape) -> Option<Shape>
     ensures { Fitted Xor a b result }
 {
     let writes = a.writes as u32 + b.writes as u32;
-    if a.letter == b.letter
+    let fits = a.letter == b.letter
         && a.letter.is_summed()
         && a.depth == b.depth
         && a.reads > b.writes
         && b.reads > a.writes
-        && writes <= MAX_PORTS as u32
-    {
-        let reads = (a.reads - b.writes).min(b.reads - a.writes);
-        Some(Shape {
-            reads,
-            writes: writes as u8,
-            ..a
-        })
-    } else {
-        None
-    }
+        && writes <= MAX_PORTS as u32;
+    fits.then(|| Shape {
+        reads: (a.reads - b.writes).min(b.reads - a.writes),
+        writes: writes as u8,
+        ..a
+    })
 }
 
 // The addresses of the first half, then those of the second.
@@ -97,35 +85,27 @@ fn depth(a: Shape, b: Shape) -> Option<Shape>
     ensures { Fitted Depth a b result }
 {
     let depth = a.depth as u64 + b.depth as u64;
-    if a.letter == b.letter
+    let fits = a.letter == b.letter
         && a.reads == b.reads
         && a.writes == b.writes
-        && depth <= MAX_DEPTH as u64
-    {
-        Some(Shape {
-            depth: depth as u32,
-            ..a
-        })
-    } else {
-        None
-    }
+        && depth <= MAX_DEPTH as u64;
+    fits.then(|| Shape {
+        depth: depth as u32,
+        ..a
+    })
 }
 
 // A word of 64 bits from two of 32.
 fn width(a: Shape, b: Shape) -> Option<Shape>
     ensures { Fitted Width a b result }
 {
-    if a.letter == Letter::H
+    let fits = a.letter == Letter::H
         && b.letter == Letter::H
         && a.depth == b.depth
         && a.reads == b.reads
-        && a.writes == b.writes
-    {
-        Some(Shape {
-            letter: Letter::B,
-            ..a
-        })
-    } else {
-        None
-    }
+        && a.writes == b.writes;
+    fits.then(|| Shape {
+        letter: Letter::B,
+        ..a
+    })
 }

@@ -9,7 +9,7 @@ use crate::faults::{CheckFault, NodeFault};
 use crate::limits::MAX_NODES;
 use crate::node::Node;
 use crate::shape::Shape;
-use crate::stack::Stack;
+use crate::stack::{Stack, add};
 
 /// What passes the check: the shape of the whole, and the number of macros.
 #[derive(Clone, Copy)]
@@ -22,13 +22,7 @@ pub struct Top {
 pub fn macros(nodes: &[Node]) -> usize
     ensures { result ≡ macro_count nodes.now }
 {
-    let mut count = 0;
-    for node in nodes {
-        if node.is_macro() {
-            count += 1;
-        }
-    }
-    count
+    nodes.iter().filter(|node| node.is_macro()).count()
 }
 
 // The fault of a plan whose node `i`, counted from 0, is refused.
@@ -49,10 +43,7 @@ fn stacked(nodes: &[Node]) -> Result<Stack, CheckFault>
 {
     let mut stack = Stack::new();
     for (i, node) in nodes.iter().enumerate() {
-        match stack.add(*node) {
-            Ok(next) => stack = next,
-            Err(fault) => return Err(refused(i, fault)),
-        }
+        add(&mut stack, *node).map_err(|fault| refused(i, fault))?;
     }
     Ok(stack)
 }
@@ -68,15 +59,15 @@ fn judge(nodes: &[Node]) -> Result<Top, CheckFault>
         return Err(CheckFault::TooManyNodes);
     }
     let stack = stacked(nodes)?;
-    if stack.count > 1 {
-        return Err(CheckFault::ManyMemories {
+    match stack.as_slice() {
+        [shape] => Ok(Top {
+            shape: *shape,
+            macros: macros(nodes),
+        }),
+        _ => Err(CheckFault::ManyMemories {
             place: nodes.len() + 1,
-        });
+        }),
     }
-    Ok(Top {
-        shape: stack.shapes[0],
-        macros: macros(nodes),
-    })
 }
 
 /// Whether the nodes are the plan of one memory: its shape and its number of macros, or the first fault.
@@ -95,8 +86,5 @@ pub fn shape_at(nodes: &[Node], last: usize) -> Option<Shape>
     if last >= nodes.len() || last >= MAX_NODES {
         return None;
     }
-    match stacked(&nodes[0..last + 1]) {
-        Ok(stack) => Some(stack.shapes[stack.count - 1]),
-        Err(_) => None,
-    }
+    stacked(&nodes[..=last]).ok()?.last().copied()
 }

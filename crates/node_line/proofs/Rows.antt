@@ -1,9 +1,9 @@
 -- The fields of a macro's line are found in one way.
-use Rattle.std.proofs.Common.{◌≡◌, ℕ, List, ◌∷◌, ◌++◌, codes, decimal, sym, refl, ap, ◌∙◌, subst, inl, inr, arith}
+use Rattle.std.proofs.Common.{◌≡◌, ℕ, List, ◌∷◌, ◌++◌, codes, decimal, sym, refl, ap, ◌∙◌, subst, arith}
 use Rattle.std.specs.Str.Iter.{LacksByte}
 use Rattle.word.specs.declared.Letter.{Letter}
 use Rattle.word.specs.declared.Letter.TheVariants.{H, B, S, O}
-use Rattle.text.proofs.Cuts.{same_cut, no_cut, number_off, lacks_by_test}
+use Rattle.text.proofs.Cuts.{Free, free_by_test, no_cut, number_off, lacks_by_test}
 use Rattle.text.proofs.Numerals.{canonical_decimal, written, valued}
 use Rattle.node.specs.declared.node.Layer.{Layer}
 use Rattle.node.specs.declared.node.Layer.TheVariants.{Replicate, Lvt, Xor, Depth, Width}
@@ -11,7 +11,7 @@ use Rattle.node.specs.declared.node.Macro.{Macro}
 use Rattle.node.specs.declared.node.Node.TheVariants as node
 use Rattle.node.specs.Nodes.{InRange}
 use Rattle.node_line.specs.declared.Fields.{Fields}
-use Rattle.node_line.specs.Lines.{Row, WellFormed, NodeLine, row, line_of, letter_byte, layer_name}
+use Rattle.node_line.specs.Lines.{Row, NodeLine, row, line_of, letter_byte, layer_name}
 use Rattle.node_line.specs.Reading.{Says, macro_of}
 
 -- a letter and a TAB are taken off in one way
@@ -36,6 +36,21 @@ same_letter O H e = absurd (omega arith)
 same_letter O B e = absurd (omega arith)
 same_letter O S e = absurd (omega arith)
 same_letter O O e = refl
+
+-- no letter is an end of line
+pub letter_free : (x : Letter) → letter_byte x ≡ 10 → ⊥
+letter_free H e = omega arith
+letter_free B e = omega arith
+letter_free S e = omega arith
+letter_free O e = omega arith
+
+-- nor does a layer's name hold one
+pub name_free : (x : Layer) → Free 10 (layer_name x)
+name_free Replicate = free_by_test 10 (codes "replicate") refl
+name_free Lvt = free_by_test 10 (codes "lvt") refl
+name_free Xor = free_by_test 10 (codes "xor") refl
+name_free Depth = free_by_test 10 (codes "depth") refl
+name_free Width = free_by_test 10 (codes "width") refl
 
 -- fields that are taken off one after another
 pub row_joins : {bs r₁ r₂ r₃ : List ℕ} (f₁ : List ℕ) (x : Letter) (f₂ f₃ r₄ : List ℕ) → bs ≡ f₁ ++ (9 ∷ r₁) → r₁ ≡ letter_byte x ∷ 9 ∷ r₂ → r₂ ≡ f₂ ++ (9 ∷ r₃) → r₃ ≡ f₃ ++ (9 ∷ r₄) → bs ≡ row f₁ x f₂ f₃ r₄
@@ -94,19 +109,9 @@ layer_no_tab Xor = lacks_by_test 9 (codes "xor") refl
 layer_no_tab Depth = lacks_by_test 9 (codes "depth") refl
 layer_no_tab Width = lacks_by_test 9 (codes "width") refl
 
-pub macro_no_tab : LacksByte 9 (codes "macro")
-macro_no_tab = lacks_by_test 9 (codes "macro") refl
-
 -- a line with a TAB is no layer's
 pub not_layer : {l : List ℕ} (f rest : List ℕ) (x : Layer) → l ≡ f ++ (9 ∷ rest) → l ≡ layer_name x → ⊥
 not_layer f rest x e is = no_cut 9 (layer_name x) f rest (sym is ∙ e) (layer_no_tab x)
-
--- nor is it a macro's where its fields are none
-pub not_formed : {l : List ℕ} (f rest : List ℕ) → l ≡ f ++ (9 ∷ rest) → LacksByte 9 f → (f ≡ codes "macro" → Row rest → ⊥) → WellFormed l → ⊥
-not_formed f rest e free bad (inl w) = not_layer f rest w.0 e w.1
-not_formed f rest e free bad (inr w) =
-    let p = same_cut 9 f (codes "macro") rest w.0 (sym e ∙ w.1) free macro_no_tab in
-    bad p.0 (subst Row (sym p.1) w.2)
 
 -- a macro's line that says numbers out of range is the line of no node in range
 pub not_node : {l rest : List ℕ} {w : Fields} → l ≡ codes "macro" ++ (9 ∷ rest) → Says rest w → (InRange (macro_of w) → ⊥) → NodeLine l → ⊥

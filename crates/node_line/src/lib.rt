@@ -1,13 +1,13 @@
 // The line of a node in a plan text: `macro`, kind, letter, reads, writes and depth, or a layer's name.
 #![tactic(auto)]
 
-ghost use Rattle.std.specs.Prelude.{◌≡◌, [], ◌∷◌, ◌++◌, codes, Decides};
+ghost use Rattle.std.specs.Prelude.{◌≡◌, [], ◌∷◌, ◌++◌};
 ghost use Rattle.text.specs.Lines.{line_text};
 ghost use Rattle.node_line.specs.Lines.{letter_byte, layer_name, line_of};
 ghost use Rattle.node_line.specs.Reading.{LayerRead, LetterRead, LetterField, FieldsRead, Ranged, LineRead};
 
 use node::{Layer, Macro, Node};
-use text::{LineBuffer, LineFault, cut, number, number_field};
+use text::{LineBuffer, LineFault, number, number_field};
 use word::Letter;
 
 // The fields of a macro's line, before their ranges are judged.
@@ -20,7 +20,8 @@ struct Fields {
     depth: u128,
 }
 
-// The layer with this name.
+// The layer with this name. Names and bytes are the text's, so these are functions here: an `impl` would
+// have to stand beside the types, which know no text.
 fn layer_of(word: &[u8]) -> Option<Layer>
     ensures { LayerRead word.now result }
 {
@@ -52,10 +53,7 @@ fn letter_field(bytes: &[u8]) -> Option<(Letter, &[u8])>
     ensures { LetterField bytes.now result }
 {
     match bytes {
-        [byte, b'\t', rest @ ..] => {
-            let letter = letter_of(*byte)?;
-            Some((letter, rest))
-        }
+        [byte, b'\t', rest @ ..] => Some((letter_of(*byte)?, rest)),
         _ => None,
     }
 }
@@ -79,25 +77,18 @@ fn fields_of(bytes: &[u8]) -> Option<Fields>
 }
 
 // The macro with these fields, if each number is within its range. A number that its type cannot hold is
-// out of range too, and is taken as the largest that it holds.
+// out of range too.
 fn within(fields: Fields) -> Option<Macro>
     ensures { Ranged fields result }
 {
     let m = Macro {
-        kind: fields.kind.min(u8::MAX as u128) as u8,
+        kind: u8::try_from(fields.kind).ok()?,
         letter: fields.letter,
-        reads: fields.reads.min(u8::MAX as u128) as u8,
-        writes: fields.writes.min(u8::MAX as u128) as u8,
-        depth: fields.depth.min(u32::MAX as u128) as u32,
+        reads: u8::try_from(fields.reads).ok()?,
+        writes: u8::try_from(fields.writes).ok()?,
+        depth: u32::try_from(fields.depth).ok()?,
     };
-    if m.is_in_range() { Some(m) } else { None }
-}
-
-// Whether a line's first field is that of a macro.
-fn is_macro(word: &[u8]) -> bool
-    ensures { Decides result (word.now ≡ codes "macro") }
-{
-    matches!(word, b"macro")
+    m.is_in_range().then_some(m)
 }
 
 /// The node that a line writes, its end left out. The whole line is judged for its form before any
@@ -105,22 +96,11 @@ fn is_macro(word: &[u8]) -> bool
 pub fn parse(line: &[u8]) -> Result<Node, LineFault>
     ensures { LineRead line.now result }
 {
-    let Some((word, rest)) = cut(line, b'\t') else {
-        return match layer_of(line) {
-            Some(layer) => Ok(Node::Layer(layer)),
-            None => Err(LineFault::Malformed),
-        };
+    let Some(fields) = line.strip_prefix(b"macro\t") else {
+        return layer_of(line).map(Node::Layer).ok_or(LineFault::Malformed);
     };
-    if !is_macro(word) {
-        return Err(LineFault::Malformed);
-    }
-    let Some(fields) = fields_of(rest) else {
-        return Err(LineFault::Malformed);
-    };
-    match within(fields) {
-        Some(m) => Ok(Node::Macro(m)),
-        None => Err(LineFault::OutOfRange),
-    }
+    let fields = fields_of(fields).ok_or(LineFault::Malformed)?;
+    within(fields).map(Node::Macro).ok_or(LineFault::OutOfRange)
 }
 
 /// The byte that writes a letter.

@@ -22,7 +22,7 @@ impl<'a> Draft<'a> {
         let nodes = self.nodes;
         let Ok(top) = check(nodes) else {
             return Sealed {
-                nodes: &nodes[0..0],
+                nodes: &nodes[..0],
                 top: None,
             };
         };
@@ -52,50 +52,35 @@ impl<'a> Sealed<'a> {
     pub fn letter(&self) -> Option<Letter>
         ensures { result ≡ top_letter self.now.top }
     {
-        match self.top {
-            Some(top) => Some(top.shape.letter),
-            None => None,
-        }
+        self.top.map(|top| top.shape.letter)
     }
 
     /// The number of read ports, or 0.
     pub fn reads(&self) -> u8
         ensures { result ≡ top_reads self.now.top }
     {
-        match self.top {
-            Some(top) => top.shape.reads,
-            None => 0,
-        }
+        self.top.map_or(0, |top| top.shape.reads)
     }
 
     /// The number of write ports, or 0.
     pub fn writes(&self) -> u8
         ensures { result ≡ top_writes self.now.top }
     {
-        match self.top {
-            Some(top) => top.shape.writes,
-            None => 0,
-        }
+        self.top.map_or(0, |top| top.shape.writes)
     }
 
     /// The depth, or 0.
     pub fn depth(&self) -> u32
         ensures { result ≡ top_depth self.now.top }
     {
-        match self.top {
-            Some(top) => top.shape.depth,
-            None => 0,
-        }
+        self.top.map_or(0, |top| top.shape.depth)
     }
 
     /// The number of macros, or 0.
     pub fn macros(&self) -> usize
         ensures { result ≡ top_macros self.now.top }
     {
-        match self.top {
-            Some(top) => top.macros,
-            None => 0,
-        }
+        self.top.map_or(0, |top| top.macros)
     }
 
     /// The shape of the memory that ends with the node `last`, counted from 0, or none.
