@@ -20,6 +20,7 @@ pub enum Part {
 
 impl Part {
     /// The word that is printed.
+    // Bytes for a line, so no `Display`, which would print text.
     pub fn name(self) -> &'static [u8]
         ensures { result.now ≡ part_name self }
     {

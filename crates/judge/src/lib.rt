@@ -8,6 +8,7 @@ use plan_text::{ReadFault, read};
 use text::{Fault, Report};
 
 /// Why a plan text is refused.
+// Not `Either` of the two faults, whose cases would not say which is which.
 #[derive(Clone, Copy)]
 pub enum PlanFault {
     /// The text is not read.
@@ -32,12 +33,7 @@ impl Fault for PlanFault {
 pub fn judge(text: &[u8], nodes: &mut [Node]) -> Result<usize, PlanFault>
     ensures { Judged text.now nodes.old nodes.new result }
 {
-    let count = match read(text, nodes) {
-        Ok(count) => count,
-        Err(fault) => return Err(PlanFault::Read(fault)),
-    };
-    match check(&nodes[0..count]) {
-        Ok(_) => Ok(count),
-        Err(fault) => Err(PlanFault::Check(fault)),
-    }
+    let count = read(text, nodes).map_err(PlanFault::Read)?;
+    check(&nodes[..count]).map_err(PlanFault::Check)?;
+    Ok(count)
 }

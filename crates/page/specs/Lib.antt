@@ -1,1 +1,4 @@
+pub mod Cursors
+pub mod Faults
 pub mod Pages
+pub mod Texts

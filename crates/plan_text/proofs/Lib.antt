@@ -1,4 +1,5 @@
 pub mod Lines
 pub mod Fronts
 pub mod Sole
+pub mod Turns
 pub mod RoundTrips

@@ -1,15 +1,15 @@
 -- What is read of a text that was written, and written of a text that was read.
-use Rattle.std.proofs.Common.{◌≡◌, ℕ, ◌+◌, ◌-◌, ◌*◌, ◌<◌, ◌≤◌, List, [], ◌∷◌, ◌++◌, length, get_or, take, drop, Ok, Err, Result, sym, refl, ap, ◌∙◌, subst, inr, ⊎_elim, append-nil, arith, length-append, take-append-drop}
+use Rattle.std.proofs.Common.{◌≡◌, ℕ, ◌+◌, ◌*◌, ◌<◌, ◌≤◌, List, [], ◌∷◌, ◌++◌, length, get_or, take, drop, true, is_ok, Ok, Err, Result, MatchResult, IsErrAnd, sym, refl, ap, ◌∙◌, subst, inr, ⊎_elim, append-nil, arith, length-append, take-append-drop}
 use Rattle.std.specs.List.{AllByRecursion}
 use Rattle.std.proofs.ByRecursion.{All-append, All-drop, All-take}
 use Rattle.std.proofs.lemmas.List.{drop_all, drop_more, length-take-le, take_at}
 use Rattle.std.proofs.lemmas.Bool.{cases_lt}
+use Rattle.text.proofs.Fronts.{text_cons}
 use Rattle.node.specs.declared.node.Node.{Node}
 use Rattle.node.specs.declared.node.Node.TheVariants as node
 use Rattle.node.specs.declared.node.Layer.TheVariants.{Lvt}
 use Rattle.node.specs.declared.shape.Shape.{Shape}
-use Rattle.node.specs.Plans.{Plan, single, layered, Checked}
-use Rattle.node.proofs.Stacking.{part_front}
+use Rattle.node.specs.Plans.{Plan, single, layered}
 use Rattle.node_line.specs.Lines.{line_of, NodeInRange}
 use Rattle.node_line.proofs.Rendering.{line_short}
 use Rattle.plan_text.specs.declared.faults.ReadFault.{ReadFault}
@@ -18,11 +18,10 @@ use Rattle.plan_text.specs.Texts.{NodeComes, ReadSole, TextRead, text_of}
 use Rattle.plan_text.specs.declared.faults.TripFault.{TripFault}
 use Rattle.plan_text.specs.declared.faults.TripFault.TheVariants as trip
 use Rattle.plan_text.specs.declared.faults.WriteFault.{WriteFault}
-use Rattle.plan_text.specs.declared.faults.WriteFault.TheVariants as writing
-use Rattle.plan_text.specs.Trips.{Reread, Rewritten}
+use Rattle.plan_text.specs.Trips.{Reread}
 use Rattle.plan_text.specs.Writing.{Passing, TextWritten}
-use Rattle.plan_text.proofs.Fronts.{line_lacks, text_cons}
-use Rattle.plan_text.proofs.Lines.{text_append}
+use Rattle.plan_text.proofs.Fronts.{line_lacks}
+use Rattle.std.proofs.lemmas.Grind.{flat_map-append}
 
 -- the nodes of a plan are in range
 plan_ranged : {ns : List Node} {s : Shape} → Plan ns s → AllByRecursion NodeInRange ns
@@ -50,7 +49,7 @@ read_whole ns old passing fits = (
 node_comes : (n : Node) (ns : List Node) → NodeInRange n → NodeComes (text_of (n ∷ ns))
 node_comes n ns h = (
   line_of n,
-  ((text_of ns, sym (append-nil (text_of (n ∷ ns))) ∙ text_cons n ns [] ∙ ap (λ (t : List ℕ). line_of n ++ (10 ∷ t)) (append-nil (text_of ns))), line_lacks n h),
+  ((text_of ns, sym (append-nil (text_of (n ∷ ns))) ∙ text_cons line_of n ns [] ∙ ap (λ (t : List ℕ). line_of n ++ (10 ∷ t)) (append-nil (text_of ns))), line_lacks n h),
   (n, h, refl),
 )
 
@@ -68,7 +67,7 @@ read_part ns old d passing short =
         take k ns,
         text_of (drop k ns),
         record {
-          split = ap text_of (sym (take-append-drop k ns)) ∙ text_append (take k ns) (drop k ns);
+          split = ap text_of (sym (take-append-drop k ns)) ∙ flat_map-append (λ n. line_of n ++ (10 ∷ [])) (take k ns) (drop k ns);
           ranged = All-take NodeInRange k ns ranged;
           few = omega (arith, passing.1.0);
           fits = omega arith;
@@ -83,22 +82,22 @@ abbrev pub by_read : Result ℕ ReadFault → Result ℕ TripFault
 by_read (Ok n) = Ok n
 by_read (Err f) = Err (trip.Read f)
 
--- the answer of a trip that ends with writing
-abbrev pub by_write : Result ℕ WriteFault → Result ℕ TripFault
-by_write (Ok n) = Ok n
-by_write (Err f) = Err (trip.Write f)
+-- the answer of a trip that ends with reading is what was read
+pub ends_with_read : (r : Result ℕ ReadFault) (q : Result ℕ TripFault) → MatchResult r (λ n. q ≡ Ok n) (λ f. IsErrAnd q (λ g. g ≡ trip.Read f)) → by_read r ≡ q
+ends_with_read (Ok n) q is = sym is
+ends_with_read (Err f) (Ok n) is = absurd is
+ends_with_read (Err f) (Err g) is = ap Err (sym is)
 
--- a text at the front of a buffer, as a part of it
-written_front : (text rest out : List ℕ) (n : ℕ) → n ≡ length text → out ≡ text ++ rest → take (n - 0) out ≡ text
-written_front text rest out n e is =
-    let same : n - 0 ≡ n = omega arith in
-    ap (λ (k : ℕ). take k out) same ∙ ap (take n) is ∙ take_at text rest n (sym e)
+-- what was written before a trip went on
+pub went_on : (r : Result ℕ WriteFault) (n : ℕ) (Q : WriteFault → Type 0) → MatchResult r (λ m. ◌≡◌ {A = Result ℕ TripFault} (Ok n) (Ok m)) Q → true ≡ is_ok r → r ≡ Ok n
+went_on (Ok m) n Q is ok = cc
+went_on (Err f) n Q is ok = absurd (cc)
 
 -- nodes that were written and read back
-pub reread : (ns : List Node) (out out' : List ℕ) (old new : List Node) (n : ℕ) (r : Result ℕ ReadFault) → TextWritten ns out out' (Ok n) → ReadSole (take (n - 0) out') old new r → Reread ns out out' old new (by_read r)
+pub reread : (ns : List Node) (out out' : List ℕ) (old new : List Node) (n : ℕ) (r : Result ℕ ReadFault) → TextWritten ns out out' (Ok n) → ReadSole (take n out') old new r → Reread ns out out' old new (by_read r)
 reread ns out out' old new n r w sole =
     let passing = w.0 in
-    let is = written_front (text_of ns) (drop n out) out' n w.1 w.3 in
+    let is = ap (take n) w.3 ∙ take_at (text_of ns) (drop n out) n (sym w.1) in
     let written = subst (λ (k : ℕ). TextWritten ns out out' (Ok k)) w.1 w in
     ⊎_elim
     (λ (short : length old < length ns).
@@ -108,22 +107,3 @@ reread ns out out' old new n r w sole =
     let p = sole (ns ++ drop (length ns) old) (Ok (length ns)) (subst (λ (t : List ℕ). TextRead t old (ns ++ drop (length ns) old) (Ok (length ns))) (sym is) (read_whole ns old passing fits)) in
     subst (λ (q : Result ℕ ReadFault). Reread ns out out' old new (by_read q)) p.1 (written, refl, fits, sym p.0))
     (cases_lt (length old) (length ns))
-
--- the text of the nodes that were read
-read_text : (text : List ℕ) (old new : List Node) (count : ℕ) → TextRead text old new (Ok count) → text_of (take count new) ≡ text
-read_text text old new count (short, (ns, is, front)) =
-    ap text_of (ap (take count) front.buffer ∙ take_at ns (drop (length ns) old) count (sym is)) ∙ sym (front.split ∙ append-nil (text_of ns))
-
--- a text that was read and written back
-pub rewritten : (text : List ℕ) (old new ms : List Node) (out out' : List ℕ) (count : ℕ) (r : Result ℕ WriteFault) → TextRead text old new (Ok count) → ms ≡ take (count - 0) new → TextWritten ms out out' r → Rewritten text old new out out' (by_write r)
-rewritten text old new ms out out' count (Ok n) read at (passing, long, room, written) =
-    let is = at ∙ part_front count new in
-    let same = ap text_of is ∙ read_text text old new count read in
-    ((count, read, subst Passing is passing), long ∙ ap length same, room, written ∙ ap (λ (t : List ℕ). t ++ drop n out) same)
-rewritten text old new ms out out' count (Err (writing.Check f)) read at (checked, kept) =
-    let is = at ∙ part_front count new in
-    ((count, read, subst (λ (ns : List Node). Checked ns (Err f)) is checked), kept)
-rewritten text old new ms out out' count (Err writing.NoRoom) read at (passing, short, kept) =
-    let is = at ∙ part_front count new in
-    let same = ap text_of is ∙ read_text text old new count read in
-    ((count, read, subst Passing is passing), omega (arith, ap length same), kept)

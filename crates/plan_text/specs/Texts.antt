@@ -1,10 +1,8 @@
 -- The text of nodes, and what a reader of any text answers.
 use Rattle.std.specs.Prelude.{◌≡◌, ℕ, ◌+◌, ◌<◌, ◌≤◌, ◌⊎◌, List, [], ◌∷◌, ◌++◌, length, drop, Ok, Err, Result}
 use Rattle.std.specs.List.{flat_map, AllByRecursion}
-use Rattle.std.specs.Str.Iter.{LacksByte}
-use Rattle.text.specs.declared.faults.LineFault.{LineFault}
-use Rattle.text.specs.declared.faults.LineFault.TheVariants.{Malformed}
 use Rattle.text.specs.Faults.{max_bytes}
+use Rattle.text.specs.Texts.{Begins, LineFails}
 use Rattle.node.specs.declared.node.Node.{Node}
 use Rattle.node.specs.Limits.{max_nodes}
 use Rattle.node_line.specs.Lines.{line_of, NodeInRange, NodeLine}
@@ -16,10 +14,6 @@ use Rattle.plan_text.specs.declared.faults.ReadFault.TheVariants as reading
 abbrev pub text_of : List Node → List ℕ
 text_of ns = flat_map (λ n. line_of n ++ (10 ∷ [])) ns
 
--- rest begins with this line
-abbrev pub Begins : List ℕ → List ℕ → Type 0
-Begins rest line = ((more : List ℕ) × (rest ≡ line ++ (10 ∷ more))) × LacksByte 10 line
-
 -- the nodes ns are read off the front of a text, rest is left, and the buffer went from old to new
 pub record Front (text : List ℕ) (old new ns : List Node) (rest : List ℕ) : Type 0 where
   pub split : text ≡ text_of ns ++ rest
@@ -28,10 +22,6 @@ pub record Front (text : List ℕ) (old new ns : List Node) (rest : List ℕ) : 
   pub fits : length ns ≤ length old
   pub buffer : new ≡ ns ++ drop (length ns) old
 
--- the first line of rest is refused by itself, or rest is a line without an end
-abbrev pub LineFails : List ℕ → LineFault → Type 0
-LineFails rest f = ((line : List ℕ) × Begins rest line × LineRead line (Err f)) ⊎ ((f ≡ Malformed) × (0 < length rest) × LacksByte 10 rest)
-
 -- the first line of rest is that of a node
 abbrev pub NodeComes : List ℕ → Type 0
 NodeComes rest = (line : List ℕ) × Begins rest line × NodeLine line
@@ -39,7 +29,7 @@ NodeComes rest = (line : List ℕ) × Begins rest line × NodeLine line
 -- why reading stops where room is the length of the buffer, the nodes ns are read and rest is left
 abbrev pub Stops : ℕ → List Node → List ℕ → ReadFault → Type 0
 Stops room ns rest reading.TooLong = ⊥
-Stops room ns rest (reading.Line line f) = (line ≡ length ns + 1) × LineFails rest f
+Stops room ns rest (reading.Line line f) = (line ≡ length ns + 1) × LineFails LineRead rest f
 Stops room ns rest (reading.TooManyNodes line) = (line ≡ length ns + 1) × NodeComes rest × (length ns ≡ max_nodes)
 Stops room ns rest (reading.NoPlace line) = (line ≡ length ns + 1) × NodeComes rest × (length ns < max_nodes) × (length ns ≡ room)
 

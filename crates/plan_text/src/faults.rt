@@ -27,6 +27,7 @@ pub enum WriteFault {
 }
 
 /// Why a trip from text to nodes and back, or from nodes to text and back, ends on the way.
+// Not `Either` of the two faults, whose cases would not say which is which.
 #[derive(Clone, Copy)]
 pub enum TripFault {
     /// The text is not read.

@@ -1,32 +1,32 @@
 // The reader of a plan text.
-ghost use Rattle.plan_text.specs.Texts.{TextRead, ReadSole};
+ghost use Rattle.text.specs.Texts.{LineTold};
+ghost use Rattle.node_line.specs.Reading.{LineRead};
+ghost use Rattle.plan_text.specs.declared.faults.ReadFault.TheVariants.{Line};
+ghost use Rattle.plan_text.specs.Texts.{ReadSole, TextRead};
 
 use crate::faults::ReadFault;
 use node::{MAX_NODES, Node};
 use node_line::parse;
-use text::{LineFault, MAX_BYTES, cut};
+use text::{LineFault, TextLines};
+
+// The node of a line, or why the line is refused by itself.
+// By hand for each format: one public function for all would ask something of the parser that it is given.
+fn node_of(line: usize, bytes: Result<&[u8], LineFault>) -> Result<Node, ReadFault>
+    ensures { LineTold LineRead Line line bytes.entry result }
+{
+    bytes
+        .and_then(parse)
+        .map_err(|fault| ReadFault::Line { line, fault })
+}
 
 // Reads line by line, up to the first fault.
 fn read_lines(text: &[u8], nodes: &mut [Node]) -> Result<usize, ReadFault>
     ensures { TextRead text.now nodes.old nodes.new result }
 {
-    if text.len() > MAX_BYTES {
-        return Err(ReadFault::TooLong);
-    }
-    let mut left = text;
+    let lines = TextLines::new(text).ok_or(ReadFault::TooLong)?;
     let mut count = 0;
-    while !left.is_empty() {
-        let line = count + 1;
-        let Some((bytes, rest)) = cut(left, b'\n') else {
-            return Err(ReadFault::Line {
-                line,
-                fault: LineFault::Malformed,
-            });
-        };
-        let node = match parse(bytes) {
-            Ok(node) => node,
-            Err(fault) => return Err(ReadFault::Line { line, fault }),
-        };
+    for (line, bytes) in lines {
+        let node = node_of(line, bytes)?;
         if count == MAX_NODES {
             return Err(ReadFault::TooManyNodes { line });
         }
@@ -35,7 +35,6 @@ fn read_lines(text: &[u8], nodes: &mut [Node]) -> Result<usize, ReadFault>
         }
         nodes[count] = node;
         count += 1;
-        left = rest;
     }
     Ok(count)
 }

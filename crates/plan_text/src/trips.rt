@@ -10,26 +10,14 @@ use node::Node;
 pub fn rewrite(text: &[u8], nodes: &mut [Node], out: &mut [u8]) -> Result<usize, TripFault>
     ensures { Rewritten text.now nodes.old nodes.new out.old out.new result }
 {
-    let count = match read(text, nodes) {
-        Ok(count) => count,
-        Err(fault) => return Err(TripFault::Read(fault)),
-    };
-    match write(&nodes[0..count], out) {
-        Ok(size) => Ok(size),
-        Err(fault) => Err(TripFault::Write(fault)),
-    }
+    let count = read(text, nodes).map_err(TripFault::Read)?;
+    write(&nodes[..count], out).map_err(TripFault::Write)
 }
 
 /// Writes nodes to `out` and reads them back into `back`: the same nodes, for every plan that passes.
 pub fn reread(nodes: &[Node], out: &mut [u8], back: &mut [Node]) -> Result<usize, TripFault>
     ensures { Reread nodes.now out.old out.new back.old back.new result }
 {
-    let size = match write(nodes, out) {
-        Ok(size) => size,
-        Err(fault) => return Err(TripFault::Write(fault)),
-    };
-    match read(&out[0..size], back) {
-        Ok(count) => Ok(count),
-        Err(fault) => Err(TripFault::Read(fault)),
-    }
+    let size = write(nodes, out).map_err(TripFault::Write)?;
+    read(&out[..size], back).map_err(TripFault::Read)
 }

@@ -1,27 +1,30 @@
 // The writer of a plan text.
-ghost use Rattle.std.specs.Prelude.{◌≤◌, length, Decides};
-ghost use Rattle.plan_text.specs.Texts.{text_of};
 ghost use Rattle.plan_text.specs.Writing.{TextWritten};
 
 use crate::faults::WriteFault;
 use node::{Node, check};
 use node_line::render;
-use text::put;
+use page::{Cursor, Text};
 
-// Whether the text of the nodes has at most `room` bytes.
-fn fits(nodes: &[Node], room: usize) -> bool
-    ensures { Decides result (length (text_of nodes.now) ≤ room) }
-{
-    let mut left = room;
-    for node in nodes {
-        let line = render(node);
-        let size = line.as_bytes().len();
-        if size > left {
-            return false;
+// The text of nodes.
+#[derive(Clone, Copy)]
+struct PlanText<'a> {
+    nodes: &'a [Node],
+}
+
+impl Text for PlanText<'_> {
+    ghost use Rattle.std.proofs.Common.{◌≡◌, sym, ◌∙◌};
+    ghost use Rattle.plan_text.specs.Texts.{text_of};
+
+    ghost says = { λ t bytes. bytes ≡ text_of t.nodes.now };
+
+    ghost sole = { λ t bytes others is same. is ∙ sym same };
+
+    fn lay(&self, cursor: &mut Cursor) {
+        for node in self.nodes {
+            cursor.append(render(node).as_bytes());
         }
-        left -= size;
     }
-    true
 }
 
 /// Writes the text of nodes that pass the check to the front of `out`, and says how long it is. On
@@ -29,20 +32,6 @@ fn fits(nodes: &[Node], room: usize) -> bool
 pub fn write(nodes: &[Node], out: &mut [u8]) -> Result<usize, WriteFault>
     ensures { TextWritten nodes.now out.old out.new result }
 {
-    if let Err(fault) = check(nodes) {
-        return Err(WriteFault::Check(fault));
-    }
-    if !fits(nodes, out.len()) {
-        return Err(WriteFault::NoRoom);
-    }
-    let mut at = 0;
-    for node in nodes {
-        let line = render(node);
-        // There is room for all lines, so none is refused here.
-        let Some(end) = put(out, at, line.as_bytes()) else {
-            return Err(WriteFault::NoRoom);
-        };
-        at = end;
-    }
-    Ok(at)
+    check(nodes).map_err(WriteFault::Check)?;
+    page::write(&PlanText { nodes }, out).map_err(|_| WriteFault::NoRoom)
 }

@@ -3,15 +3,16 @@ use Rattle.std.proofs.Common.{◌≡◌, ℕ, zero, suc, ◌+◌, ◌-◌, ◌�
 use Rattle.node.specs.declared.node.Node.{Node}
 use Rattle.node.specs.declared.verdict.Top.{Top}
 use Rattle.node.specs.Limits.{max_kind}
-use Rattle.page.specs.Pages.{Extends, Within, max_size}
-use Rattle.page.proofs.Pages.{page_none, page_size, page_short, page_front, extends_then, extends_is}
+use Rattle.page.specs.declared.cursor.Cursor.{Cursor}
+use Rattle.page.specs.declared.faults.RoomFault.{RoomFault}
+use Rattle.page.specs.declared.faults.RoomFault.TheVariants.{NoRoom}
+use Rattle.page.specs.Cursors.{Grows}
+use Rattle.page.proofs.Cursors.{grows_then, grows_is}
 use Rattle.stock.specs.declared.stock.Stock.{Stock}
 use Rattle.stock.specs.Needs.{Shortage}
 use Rattle.stock.proofs.Counts.{shortage_sole}
-use Rattle.planner.specs.declared.faults.ListingFault.{ListingFault}
-use Rattle.planner.specs.declared.faults.ListingFault.TheVariants.{NoRoom}
 use Rattle.planner.specs.declared.listing.Planned.{Planned}
-use Rattle.planner.specs.Listings.{InFront, Listed, ListedSole, Measured, kind_part, kinds_text, listing, top_line, verdict_line}
+use Rattle.planner.specs.Listings.{Listed, ListedSole, kind_part, kinds_text, listing, top_line, verdict_line}
 
 -- the lines of one kind more
 pub kinds_more : (ns : List Node) (s : Stock) (kind : ℕ) → 1 ≤ kind → kinds_text ns s (kind - 1) ++ kind_part ns s kind ≡ kinds_text ns s (kind + 1 - 1)
@@ -22,25 +23,16 @@ kinds_more ns s (suc below) low =
     ap (λ (k : ℕ). kinds_text ns s k ++ kind_part ns s (suc below)) before ∙ ap (kinds_text ns s) after
 
 -- the first line, the lines of the kinds and the last line make up the listing
-pub lines_laid : (ns : List Node) (t : Top) (s : Stock) (short : Option (ℕ × ℕ)) {old first last new : List ℕ} {at mark end : Option ℕ} → Extends old first (Some 0) (top_line t ++ (10 ∷ [])) at → Extends first last at (kinds_text ns s max_kind) mark → Extends last new mark (verdict_line short ++ (10 ∷ [])) end → Extends old new (Some 0) (listing ns t s short) end
+pub lines_laid : (ns : List Node) (t : Top) (s : Stock) (short : Option (ℕ × ℕ)) {start first last end : Cursor} → Grows start (top_line t ++ (10 ∷ [])) first → Grows first (kinds_text ns s max_kind) last → Grows last (verdict_line short ++ (10 ∷ [])) end → Grows start (listing ns t s short) end
 lines_laid ns t s short top kinds verdict =
-    extends_is (sym (append_assoc (top_line t ++ (10 ∷ []) ++ kinds_text ns s max_kind) (verdict_line short) (10 ∷ []))) (extends_then (extends_then top kinds) verdict)
-
--- a text that is laid without a buffer is measured
-pub laid_measured : (text : List ℕ) (room : ℕ) (r : Option ℕ) {new : List ℕ} {size : Option ℕ} → room ≤ max_size → Extends [] new (Some 0) text size → Within size room r → Measured text room r
-laid_measured text room (Some n) most laid (is, fits) = (page_size n (laid.adds [] [] (page_none [])) is, fits)
-laid_measured text room None most laid over = page_short room (laid.adds [] [] (page_none [])) over most
-
--- and one that is laid in a buffer is at the front of it
-pub laid_in_front : (text old new : List ℕ) {size : Option ℕ} → length old ≤ max_size → Extends old new (Some 0) text size → InFront old new text
-laid_in_front text old new most laid = λ n whole room. page_front n (laid.adds old [] (page_none old)) whole room most
+    grows_is (sym (append_assoc (top_line t ++ (10 ∷ []) ++ kinds_text ns s max_kind) (verdict_line short) (10 ∷ []))) (grows_then (grows_then top kinds) verdict)
 
 -- one shortage is told, so one listing
 same_size : (ns : List Node) (t : Top) (s : Stock) (p q : Option (ℕ × ℕ)) → Shortage ns s p → Shortage ns s q → length (listing ns t s q) ≡ length (listing ns t s p)
 same_size ns t s p q h k = ap (λ (short : Option (ℕ × ℕ)). length (listing ns t s short)) (shortage_sole ns s p q h k)
 
--- no two answers would do
-pub listed_sole : (ns : List Node) (top : Option Top) (s : Stock) (old new : List ℕ) (r : Result Planned ListingFault) → Listed ns top s old new r → ListedSole ns top s old new r
+-- no two answers would do (`written_sole` says nothing of what is short, and to add it takes more cases)
+pub listed_sole : (ns : List Node) (top : Option Top) (s : Stock) (old new : List ℕ) (r : Result Planned RoomFault) → Listed ns top s old new r → ListedSole ns top s old new r
 listed_sole ns (Some t) s old new (Ok p) (least, size, room, is) new' (Ok q) (least', size', room', is') =
     let short = shortage_sole ns s p.short q.short least least' in
     let same : q.size ≡ p.size = size' ∙ same_size ns t s p.short q.short least least' ∙ sym size in

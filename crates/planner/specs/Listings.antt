@@ -11,8 +11,8 @@ use Rattle.node_line.specs.Lines.{letter_byte}
 use Rattle.stock.specs.declared.stock.Stock.{Stock}
 use Rattle.stock.specs.Needs.{Shortage, needed}
 use Rattle.stock.specs.Stocks.{in_stock}
-use Rattle.planner.specs.declared.faults.ListingFault.{ListingFault}
-use Rattle.planner.specs.declared.faults.ListingFault.TheVariants.{NoRoom}
+use Rattle.page.specs.declared.faults.RoomFault.{RoomFault}
+use Rattle.page.specs.declared.faults.RoomFault.TheVariants.{NoRoom}
 use Rattle.planner.specs.declared.listing.Planned.{Planned}
 
 -- the first line: the letter, the read ports, the write ports, the depth and the macros
@@ -54,19 +54,10 @@ verdict_line None = codes "enough"
 abbrev pub listing : List Node → Top → Stock → Option (ℕ × ℕ) → List ℕ
 listing ns t s short = top_line t ++ (10 ∷ []) ++ kinds_text ns s max_kind ++ verdict_line short ++ (10 ∷ [])
 
--- the size of a text that has at most so many bytes, or none where it has more
-abbrev pub Measured : List ℕ → ℕ → Option ℕ → Type 0
-Measured text room (Some n) = (n ≡ length text) × (n ≤ room)
-Measured text room None = room < length text
-
--- a text, n long, that has room in a buffer which was old is at the front of it
-abbrev pub InFront : List ℕ → List ℕ → List ℕ → Type 0
-InFront old new text = (n : ℕ) → n ≡ length text → n ≤ length old → new ≡ text ++ drop n old
-
 -- what planning nodes with their top against a stock answers: what is short, and the length of the listing, which is
 -- at the front of the buffer; or that it has no room, and the buffer is as it was. The empty plan has an empty
 -- listing and is enough
-abbrev pub Listed : List Node → Option Top → Stock → List ℕ → List ℕ → Result Planned ListingFault → Type 0
+abbrev pub Listed : List Node → Option Top → Stock → List ℕ → List ℕ → Result Planned RoomFault → Type 0
 Listed ns (Some t) s old new (Ok p) =
     Shortage ns s p.short
     × (p.size ≡ length (listing ns t s p.short))
@@ -78,5 +69,5 @@ Listed ns None s old new (Ok p) = (p.short ≡ None) × (p.size ≡ 0) × (new �
 Listed ns None s old new (Err NoRoom) = ⊥
 
 -- no other answer to this plan, this stock and this buffer would do
-abbrev pub ListedSole : List Node → Option Top → Stock → List ℕ → List ℕ → Result Planned ListingFault → Type 0
-ListedSole ns top s old new r = (new' : List ℕ) (r' : Result Planned ListingFault) → Listed ns top s old new' r' → (new' ≡ new) × (r' ≡ r)
+abbrev pub ListedSole : List Node → Option Top → Stock → List ℕ → List ℕ → Result Planned RoomFault → Type 0
+ListedSole ns top s old new r = (new' : List ℕ) (r' : Result Planned RoomFault) → Listed ns top s old new' r' → (new' ≡ new) × (r' ≡ r)

@@ -1,43 +1,29 @@
 // The lines of a listing, each with its end.
 ghost use Rattle.std.specs.Prelude.{◌≡◌, [], ◌∷◌, ◌++◌};
 ghost use Rattle.text.specs.Lines.{line_text};
-ghost use Rattle.planner.specs.Listings.{kind_row, short_row, top_line, top_row, verdict_line};
+ghost use Rattle.planner.specs.Listings.{kind_row, short_row, top_line, verdict_line};
 
 use node::Top;
 use node_line::letter_byte;
 use text::LineBuffer;
-use word::Letter;
-
-// The first line with these fields: letter, read ports, write ports, depth and macros.
-fn top_row(letter: Letter, reads: u8, writes: u8, depth: u32, macros: usize) -> LineBuffer
-    ensures { line_text result ≡ top_row letter reads writes depth macros ++ (10 ∷ []) }
-{
-    LineBuffer::new()
-        .word(b"top\t")
-        .byte(letter_byte(letter))
-        .byte(b'\t')
-        .number(reads as u64)
-        .byte(b'\t')
-        .number(writes as u64)
-        .byte(b'\t')
-        .number(depth as u64)
-        .byte(b'\t')
-        .number(macros as u64)
-        .byte(b'\n')
-}
 
 // The first line of a plan with this top.
 pub(crate) fn top_line(top: Top) -> LineBuffer
     ensures { line_text result ≡ top_line top ++ (10 ∷ []) }
 {
     let shape = top.shape;
-    top_row(
-        shape.letter,
-        shape.reads,
-        shape.writes,
-        shape.depth,
-        top.macros,
-    )
+    LineBuffer::new()
+        .word(b"top\t")
+        .byte(letter_byte(shape.letter))
+        .byte(b'\t')
+        .number(shape.reads as u64)
+        .byte(b'\t')
+        .number(shape.writes as u64)
+        .byte(b'\t')
+        .number(shape.depth as u64)
+        .byte(b'\t')
+        .number(top.macros as u64)
+        .byte(b'\n')
 }
 
 // The line of a kind: how many are needed, and how many are in stock.

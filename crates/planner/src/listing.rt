@@ -1,16 +1,13 @@
 // The listing of a sealed plan against a stock.
-//
-// It is laid twice by the same function: first without a buffer, to measure it, then, where it has room,
-// in the lent one.
-ghost use Rattle.std.specs.Prelude.{Some};
+ghost use Rattle.std.specs.Prelude.{◌≡◌, Some};
 ghost use Rattle.node.specs.Limits.{max_kind};
-ghost use Rattle.page.specs.Pages.{Extends};
-ghost use Rattle.planner.specs.Listings.{InFront, KindLine, Listed, ListedSole, Measured, kind_part, kinds_text, listing};
+ghost use Rattle.page.specs.Cursors.{Grows};
+ghost use Rattle.planner.specs.Listings.{KindLine, Listed, ListedSole, kind_part, kinds_text, listing};
 
-use crate::faults::ListingFault;
+use crate::ListingFault;
 use crate::lines::{kind_row, top_line, verdict_line};
 use node::{MAX_KIND, Node, Top};
-use page::{append, within};
+use page::{Cursor, Text, write};
 use seal::Sealed;
 use stock::{Stock, needed, shortage};
 use text::LineBuffer;
@@ -24,89 +21,74 @@ pub struct Planned {
     pub short: Option<(u8, usize)>,
 }
 
-// The line of a kind, if it is needed.
-fn kind_line(nodes: &[Node], stock: &Stock, kind: u8) -> Option<LineBuffer>
-    ensures { KindLine nodes.now stock.now kind result }
-{
-    let wanted = needed(nodes, kind);
-    if wanted == 0 {
-        return None;
-    }
-    Some(kind_row(kind, wanted, stock.count(kind)))
-}
-
-// Appends the line of a kind, if it is needed.
-fn append_kind(
-    nodes: &[Node],
-    stock: &Stock,
-    kind: u8,
-    out: &mut [u8],
-    at: Option<usize>,
-) -> Option<usize>
-    ensures { Extends out.old out.new at (kind_part nodes.now stock.now kind) result }
-{
-    match kind_line(nodes, stock, kind) {
-        Some(line) => append(out, at, line.as_bytes()),
-        None => at,
-    }
-}
-
-// Appends the lines of all kinds that are needed.
-fn append_kinds(nodes: &[Node], stock: &Stock, out: &mut [u8], at: Option<usize>) -> Option<usize>
-    ensures { Extends out.old out.new at (kinds_text nodes.now stock.now max_kind) result }
-{
-    let mut end = at;
-    for kind in 1..=MAX_KIND {
-        end = append_kind(nodes, stock, kind, out, end);
-    }
-    end
-}
-
-// Appends the whole listing.
-fn lay(
-    nodes: &[Node],
+// The listing of a plan's nodes and their top against a stock, with what is short of it.
+#[derive(Clone, Copy)]
+struct Listing<'a> {
+    nodes: &'a [Node],
     top: Top,
-    stock: &Stock,
+    stock: &'a Stock,
     short: Option<(u8, usize)>,
-    out: &mut [u8],
-) -> Option<usize>
-    ensures { Extends out.old out.new (Some 0) (listing nodes.now top stock.now short) result }
-{
-    let at = append(out, Some(0), top_line(top).as_bytes());
-    let at = append_kinds(nodes, stock, out, at);
-    append(out, at, verdict_line(short).as_bytes())
 }
 
-// The size of the listing, if it has at most `room` bytes.
-fn measure(
-    nodes: &[Node],
-    top: Top,
-    stock: &Stock,
-    short: Option<(u8, usize)>,
-    room: usize,
-) -> Option<usize>
-    ensures { Measured (listing nodes.now top stock.now short) room result }
-{
-    let size = lay(nodes, top, stock, short, &mut []);
-    within(size, room)
+impl Listing<'_> {
+    // The line of a kind, if it is needed.
+    fn kind_line(&self, kind: u8) -> Option<LineBuffer>
+        ensures { KindLine self.now.nodes.now self.now.stock.now kind result }
+    {
+        let wanted = needed(self.nodes, kind);
+        if wanted == 0 {
+            return None;
+        }
+        Some(kind_row(kind, wanted, self.stock.count(kind)))
+    }
+
+    // Appends the line of a kind, if it is needed.
+    fn append_kind(&self, kind: u8, cursor: &mut Cursor)
+        ensures { let part = kind_part self.now.nodes.now self.now.stock.now kind in
+            Grows cursor.old part cursor.new }
+    {
+        if let Some(line) = self.kind_line(kind) {
+            cursor.append(line.as_bytes());
+        }
+    }
+
+    // Appends the lines of all kinds that are needed.
+    fn append_kinds(&self, cursor: &mut Cursor)
+        ensures { let lines = kinds_text self.now.nodes.now self.now.stock.now max_kind in
+            Grows cursor.old lines cursor.new }
+    {
+        for kind in 1..=MAX_KIND {
+            self.append_kind(kind, cursor);
+        }
+    }
+}
+
+impl Text for Listing<'_> {
+    ghost use Rattle.std.proofs.Common.{sym, ◌∙◌};
+
+    ghost says = { λ l bytes. bytes ≡ listing l.nodes.now l.top l.stock.now l.short };
+
+    ghost sole = { λ l bytes others is same. is ∙ sym same };
+
+    fn lay(&self, cursor: &mut Cursor) {
+        cursor.append(top_line(self.top).as_bytes());
+        self.append_kinds(cursor);
+        cursor.append(verdict_line(self.short).as_bytes());
+    }
 }
 
 // Writes the listing, where it has room.
-fn write(nodes: &[Node], top: Top, stock: &Stock, short: Option<(u8, usize)>, out: &mut [u8])
-    ensures { InFront out.old out.new (listing nodes.now top stock.now short) }
-{
-    let _ = lay(nodes, top, stock, short, out);
-}
-
-// Measures the listing, and writes it where it has room.
 fn listed(nodes: &[Node], top: Top, stock: &Stock, out: &mut [u8]) -> Result<Planned, ListingFault>
     ensures { Listed nodes.now (Some top) stock.now out.old out.new result }
 {
     let short = shortage(nodes, stock);
-    let Some(size) = measure(nodes, top, stock, short, out.len()) else {
-        return Err(ListingFault::NoRoom);
+    let listing = Listing {
+        nodes,
+        top,
+        stock,
+        short,
     };
-    write(nodes, top, stock, short, out);
+    let size = write(&listing, out)?;
     Ok(Planned { size, short })
 }
 

@@ -1,29 +1,19 @@
 -- The fields of an entry's line are found in one way.
 use Rattle.std.proofs.Common.{◌≡◌, ℕ, List, ◌∷◌, ◌++◌, codes, decimal, sym, refl, ap, ◌∙◌, subst, arith}
-use Rattle.std.specs.Str.Iter.{LacksByte}
-use Rattle.text.proofs.Cuts.{same_cut, number_off, lacks_by_test}
+use Rattle.text.proofs.Cuts.{number_off}
 use Rattle.text.proofs.Numerals.{canonical_decimal, written, valued}
 use Rattle.stock.specs.declared.line.Entry.{Entry}
 use Rattle.stock.specs.declared.line.Fields.{Fields}
 use Rattle.stock.specs.Lines.{WellFormed, InRange, EntryLine, Says, row, entry_line, entry_of}
 
--- the word holds no TAB
-pub stock_no_tab : LacksByte 9 (codes "stock")
-stock_no_tab = lacks_by_test 9 (codes "stock") refl
-
--- the word and a TAB are taken off a well-formed line in one way
-pub word_off : {line : List ℕ} (w rest : List ℕ) → line ≡ w ++ (9 ∷ rest) → LacksByte 9 w → (v : WellFormed line) → (w ≡ codes "stock") × (rest ≡ v.kind ++ (9 ∷ v.count))
-word_off w rest e free v = same_cut 9 w (codes "stock") rest _ (sym e ∙ v.is) free stock_no_tab
-
--- the word and the fields, taken off one after another
-pub row_joins : {line w rest : List ℕ} (kind count : List ℕ) → line ≡ w ++ (9 ∷ rest) → w ≡ codes "stock" → rest ≡ kind ++ (9 ∷ count) → line ≡ row kind count
-row_joins kind count a b c = cc
+-- the word and its TAB are taken off a well-formed line in one way
+pub word_off : {line : List ℕ} (rest : List ℕ) → line ≡ codes "stock\t" ++ rest → (v : WellFormed line) → rest ≡ v.kind ++ (9 ∷ v.count)
+word_off rest e v = cc
 
 -- the fields of a line are those of any other way to read it
 pub same_row : {line : List ℕ} (v w : WellFormed line) → (v.kind ≡ w.kind) × (v.count ≡ w.count)
 same_row v w =
-    let a = word_off (codes "stock") _ v.is stock_no_tab w in
-    number_off refl v.kind_ok a.1 w.kind_ok
+    number_off refl v.kind_ok (word_off (v.kind ++ (9 ∷ v.count)) v.is w) w.kind_ok
 
 -- the line of an entry in range is well formed
 abbrev pub entry_formed : {line : List ℕ} (e : Entry) → InRange e → line ≡ entry_line e → WellFormed line

@@ -1,84 +1,85 @@
 -- The turns of the reader: one line is read after another.
-use Rattle.std.proofs.Common.{◌≡◌, ℕ, ◌+◌, ◌≤◌, cond, eqb, List, [], ◌∷◌, ◌++◌, length, get_or, Some, None, Ok, Err, Option, Result, sym, refl, ap, ◌∙◌, subst, append_assoc, arith, length-append, length-set}
-use Rattle.std.specs.Str.Iter.{LacksByte}
+use Rattle.std.proofs.Common.{◌≡◌, ℕ, ◌+◌, ◌<◌, cond, eqb, List, [], ◌∷◌, ◌++◌, length, get_or, Some, None, Ok, Err, Option, Result, sym, ap, ◌∙◌, subst, arith, length-set}
+use Rattle.std.specs.Borrow.{Bor}
 use Rattle.std.proofs.ByRecursion.{All-push}
-use Rattle.std.proofs.lemmas.List.{flat_map_more, length_push, nil_from_length}
-use Rattle.text.specs.Faults.{max_bytes}
+use Rattle.std.proofs.lemmas.List.{length_push}
+use Rattle.text.specs.declared.faults.LineFault.{LineFault}
+use Rattle.text.specs.declared.text_lines.TextLines.{TextLines}
+use Rattle.text.specs.Texts.{LineComes, LineTold, LinesOf}
+use Rattle.text.proofs.Fronts.{text_push}
+use Rattle.text.proofs.Begins.{Taken, refused, taken_begins}
 use Rattle.node.specs.Limits.{max_kind}
 use Rattle.stock.specs.declared.faults.StockFault.{StockFault}
+use Rattle.stock.specs.declared.faults.StockFault.TheVariants as stock
 use Rattle.stock.specs.declared.line.Entry.{Entry}
 use Rattle.stock.specs.declared.stock.Stock.{Stock}
 use Rattle.stock.specs.Lines.{InRange, LineRead, entry_line}
-use Rattle.stock.specs.Stocks.{Added, blank, in_stock, listed, listed_in}
-use Rattle.stock.specs.Texts.{Front, StockRead, UnlessEmpty, stock_text}
+use Rattle.stock.specs.Stocks.{Added, blank, listed, listed_in}
+use Rattle.stock.specs.Texts.{Front, StockRead, stock_text}
 use Rattle.stock.proofs.Tables.{distinct_push, has_counted, listed_push, same_there, set_lists}
 
--- so many lines of a text are read, the table lists what they do, and left is what is to come
-pub record Sofar (text left : List ℕ) (count : ℕ) (s : Stock) : Type 0 where
+-- lines of a text are read, the table lists what they do, and these lines are to come
+pub record Sofar (text : List ℕ) (s : Stock) (to_come : TextLines) : Type 0 where
   pub es : List Entry
-  pub number : count ≡ length es
-  pub bound : count + length left ≤ length text
-  pub front : Front text es left
+  pub next : to_come.number ≡ length es + 1
+  pub front : Front text es to_come.left.now
   pub wide : length s.counts ≡ max_kind + 1
   pub table : (kind : ℕ) → listed_in s kind ≡ listed es kind
 
 -- no line is read
-pub read_first : {text : List ℕ} {s : Stock} → length text ≤ max_bytes → s.counts ≡ blank → Sofar text text 0 s
-read_first short is = record {
+pub read_first : {text : List ℕ} {s : Stock} (to_come : TextLines) → LinesOf text (Some to_come) → s.counts ≡ blank → Sofar text s to_come
+read_first to_come (short, whole, first) is = record {
   es = [];
-  number = refl;
-  bound = omega arith;
-  front = record { short = short; split = refl; ranged = tt; distinct = tt };
+  next = first;
+  front = record { short = short; split = sym whole; ranged = tt; distinct = tt };
   wide = ap length is;
   table = λ k. ap (λ (t : List (Option ℕ)). get_or t k None) is ∙ same_there (max_kind + 1) k None;
 }
 
--- the text of one entry more
-text_push : (es : List Entry) (e : Entry) (rest : List ℕ) → stock_text (es ++ e ∷ []) ++ rest ≡ stock_text es ++ (entry_line e ++ (10 ∷ rest))
-text_push es e rest =
-    ap (λ t. t ++ rest) (sym (flat_map_more (λ f. entry_line f ++ (10 ∷ [])) [] es e))
-    ∙ append_assoc (stock_text es) (entry_line e ++ (10 ∷ [])) rest
-    ∙ ap (λ t. stock_text es ++ t) (append_assoc (entry_line e) (10 ∷ []) rest)
+-- a text that is not empty, and of which nothing is left, has entries
+entries_there : {text : List ℕ} (es : List Entry) → text ≡ stock_text es ++ [] → 0 < length text → 0 < length es
+entries_there [] e some = absurd (omega (arith, ap length e))
+entries_there (x ∷ es) e some = omega arith
 
--- a line is cut off what is left
-pub cut_length : {left : List ℕ} (line rest : List ℕ) → left ≡ line ++ (10 ∷ rest) → length rest + 1 ≤ length left
-cut_length line rest e = omega (arith, ap length e ∙ length-append line (10 ∷ rest))
-
-module _ {text left : List ℕ} {count : ℕ} {s : Stock} (now : Sofar text left count s) where
+module _ {text : List ℕ} {s : Stock} {to_come : TextLines} (now : Sofar text s to_come) where
   -- one line more is read
-  pub read_more : (line rest : List ℕ) (e : Entry) (t : Stock) → left ≡ line ++ (10 ∷ rest) → LineRead line (Ok e) → Added s e (count + 1) (Ok t) → Sofar text rest (count + 1) t
-  read_more line rest e t cut (is, ranged) (free, holds) =
+  pub read_more : (after : TextLines) (line : ℕ) (e : Entry) (t : Stock) → Taken LineRead to_come after line e → Added s e line (Ok t) → Sofar text t after
+  read_more after line e t k (free, holds) =
       let new = sym (now.table e.kind) ∙ free in
       let f = now.front in
       record {
         es = now.es ++ e ∷ [];
-        number = omega (arith, length_push now.es e, now.number);
-        bound = omega (arith, cut_length line rest cut, now.bound);
+        next = omega (arith, length_push now.es e, now.next, k.further);
         front = record {
           short = f.short;
-          split = f.split ∙ ap (λ t. stock_text now.es ++ t) (cut ∙ ap (λ t. t ++ (10 ∷ rest)) is) ∙ sym (text_push now.es e rest);
-          ranged = All-push InRange now.es e f.ranged ranged;
+          split = f.split ∙ ap (λ t. stock_text now.es ++ t) (k.at ∙ ap (λ t. t ++ (10 ∷ after.left.now)) k.read.0) ∙ sym (text_push entry_line now.es e after.left.now);
+          ranged = All-push InRange now.es e f.ranged k.read.1;
           distinct = distinct_push now.es e f.distinct new;
         };
         wide = ap length holds ∙ length-set s.counts e.kind (Some e.count) ∙ now.wide;
-        table = λ k.
-            ap (λ (xs : List (Option ℕ)). get_or xs k None) holds
-            ∙ set_lists s.counts e.kind (Some e.count) k (omega (arith, ranged.kind_high, now.wide))
-            ∙ ap (cond (eqb e.kind k) (Some e.count)) (now.table k) ∙ sym (listed_push now.es e k new);
+        table = λ k'.
+            ap (λ (xs : List (Option ℕ)). get_or xs k' None) holds
+            ∙ set_lists s.counts e.kind (Some e.count) k' (omega (arith, k.read.1.kind_high, now.wide))
+            ∙ ap (cond (eqb e.kind k') (Some e.count)) (now.table k') ∙ sym (listed_push now.es e k' new);
       }
 
+  -- the next line is refused by itself
+  pub read_refused : (after : TextLines) (line : ℕ) (bytes : Result (Bor (List ℕ)) LineFault) (g : StockFault) → LineComes to_come (Some (line, bytes)) after → LineTold LineRead stock.Line line bytes (Err g) → StockRead text (Err g)
+  read_refused after line bytes g e h =
+      let r = refused LineRead stock.Line to_come after line bytes g e h in
+      rw r.1 (now.es, to_come.left.now, now.front, omega (arith, now.next, r.2), r.3)
+
   -- the kind of the next line is listed already
-  pub read_again : (line rest : List ℕ) (e : Entry) (f : StockFault) → left ≡ line ++ (10 ∷ rest) → LacksByte 10 line → LineRead line (Ok e) → Added s e (count + 1) (Err f) → StockRead text (Err f)
-  read_again line rest e f cut free read (at, (c, is)) =
-      rw at (now.es, left, now.front, ap (λ k. k + 1) now.number, (e, (line, ((rest, cut), free), read), (c, sym (now.table e.kind) ∙ is)))
+  pub read_again : (after : TextLines) (line : ℕ) (e : Entry) (f : StockFault) → Taken LineRead to_come after line e → Added s e line (Err f) → StockRead text (Err f)
+  read_again after line e f k (at, (c, is)) =
+      rw at (now.es, to_come.left.now, now.front, omega (arith, now.next, k.here), (e, (k.bytes, taken_begins LineRead k, k.read), (c, sym (now.table e.kind) ∙ is)))
 
   -- nothing is left
-  pub read_all : (r : Result Stock StockFault) → length left ≡ 0 → UnlessEmpty s count r → StockRead text r
-  read_all (Ok t) e (some, is) = (
-    now.es,
-    subst (Front text now.es) (nil_from_length left e) now.front,
-    omega (arith, now.number),
-    (λ k. ap (λ (u : Stock). in_stock u k) is ∙ has_counted s now.es now.front.ranged now.table k),
-  )
-  read_all (Err f) e (none, is) =
-      rw is (now.front.split ∙ (λ i. stock_text (nil_from_length now.es (omega (arith, now.number)) i) ++ nil_from_length left e i))
+  pub read_all : to_come.left.now ≡ [] → 0 < length text → StockRead text (Ok s)
+  read_all e some =
+      let f = subst (Front text now.es) e now.front in (
+        now.es,
+        f,
+        entries_there now.es f.split some,
+        (λ k. has_counted s now.es now.front.ranged now.table k),
+      )

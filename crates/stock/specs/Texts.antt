@@ -1,10 +1,8 @@
 -- The text of entries, and what a reader of any text answers.
-use Rattle.std.specs.Prelude.{◌≡◌, ℕ, ◌+◌, ◌<◌, ◌≤◌, ◌⊎◌, List, [], ◌∷◌, ◌++◌, length, Some, Ok, Err, Result}
+use Rattle.std.specs.Prelude.{◌≡◌, ℕ, ◌+◌, ◌<◌, ◌≤◌, List, [], ◌∷◌, ◌++◌, length, Some, Ok, Err, Result}
 use Rattle.std.specs.List.{flat_map, AllByRecursion}
-use Rattle.std.specs.Str.Iter.{LacksByte}
-use Rattle.text.specs.declared.faults.LineFault.{LineFault}
-use Rattle.text.specs.declared.faults.LineFault.TheVariants.{Malformed}
 use Rattle.text.specs.Faults.{max_bytes}
+use Rattle.text.specs.Texts.{Begins, LineFails}
 use Rattle.stock.specs.declared.faults.StockFault.{StockFault}
 use Rattle.stock.specs.declared.faults.StockFault.TheVariants as stock
 use Rattle.stock.specs.declared.line.Entry.{Entry}
@@ -16,20 +14,12 @@ use Rattle.stock.specs.Stocks.{Distinct, counted, in_stock, listed}
 abbrev pub stock_text : List Entry → List ℕ
 stock_text es = flat_map (λ e. entry_line e ++ (10 ∷ [])) es
 
--- rest begins with this line
-abbrev pub Begins : List ℕ → List ℕ → Type 0
-Begins rest line = ((more : List ℕ) × (rest ≡ line ++ (10 ∷ more))) × LacksByte 10 line
-
 -- the entries es are read off the front of a text that is not too long, and rest is left
 pub record Front (text : List ℕ) (es : List Entry) (rest : List ℕ) : Type 0 where
   pub short : length text ≤ max_bytes
   pub split : text ≡ stock_text es ++ rest
   pub ranged : AllByRecursion InRange es
   pub distinct : Distinct es
-
--- the first line of rest is refused by itself, or rest is a line without an end
-abbrev pub LineFails : List ℕ → LineFault → Type 0
-LineFails rest f = ((line : List ℕ) × Begins rest line × LineRead line (Err f)) ⊎ ((f ≡ Malformed) × (0 < length rest) × LacksByte 10 rest)
 
 -- the first line of rest is that of this entry, in range
 abbrev pub EntryComes : List ℕ → Entry → Type 0
@@ -39,17 +29,12 @@ EntryComes rest e = (line : List ℕ) × Begins rest line × LineRead line (Ok e
 abbrev pub KindAgain : List Entry → List ℕ → Type 0
 KindAgain es rest = (e : Entry) × EntryComes rest e × ((count : ℕ) × (listed es e.kind ≡ Some count))
 
--- what the end of a text answers after so many lines: the stock that they list, or that there are none
-abbrev pub UnlessEmpty : Stock → ℕ → Result Stock StockFault → Type 0
-UnlessEmpty s lines (Ok t) = (0 < lines) × (t ≡ s)
-UnlessEmpty s lines (Err f) = (lines ≡ 0) × (f ≡ stock.Empty)
-
 -- what reading a text answers: a stock of what its entries count, of which there is one at least, or
 -- the first fault
 abbrev pub StockRead : List ℕ → Result Stock StockFault → Type 0
 StockRead text (Ok s) = (es : List Entry) × Front text es [] × (0 < length es) × ((kind : ℕ) → in_stock s kind ≡ counted es kind)
 StockRead text (Err stock.TooLong) = max_bytes < length text
-StockRead text (Err (stock.Line line f)) = (es : List Entry) × (rest : List ℕ) × Front text es rest × (line ≡ length es + 1) × LineFails rest f
+StockRead text (Err (stock.Line line f)) = (es : List Entry) × (rest : List ℕ) × Front text es rest × (line ≡ length es + 1) × LineFails LineRead rest f
 StockRead text (Err (stock.Twice line)) = (es : List Entry) × (rest : List ℕ) × Front text es rest × (line ≡ length es + 1) × KindAgain es rest
 StockRead text (Err stock.Empty) = text ≡ []
 

@@ -1,9 +1,8 @@
 // The line of an entry in a stock text: `stock`, kind and count.
-ghost use Rattle.std.specs.Prelude.{◌≡◌, codes, Decides};
 ghost use Rattle.stock.specs.Lines.{FieldsRead, Ranged, LineRead};
 
 use node::MAX_KIND;
-use text::{LineFault, cut, number, number_field};
+use text::{LineFault, number, number_field};
 
 /// How many macros of a kind there are.
 #[derive(Clone, Copy)]
@@ -19,38 +18,26 @@ struct Fields {
     count: u128,
 }
 
-// Whether a line's first field is that of an entry.
-fn is_stock(word: &[u8]) -> bool
-    ensures { Decides result (word.now ≡ codes "stock") }
-{
-    matches!(word, b"stock")
-}
-
 // The numbers that a line writes.
 fn fields_of(line: &[u8]) -> Option<Fields>
     ensures { FieldsRead line.now result }
 {
-    let (word, rest) = cut(line, b'\t')?;
-    if !is_stock(word) {
-        return None;
-    }
+    let rest = line.strip_prefix(b"stock\t")?;
     let (kind, rest) = number_field(rest)?;
     let count = number(rest)?;
     Some(Fields { kind, count })
 }
 
-// The entry with these numbers, if each is within its range.
+// The entry with these numbers, if each is within its range. A number that its type cannot hold is out
+// of range too.
 fn within(fields: Fields) -> Option<Entry>
     ensures { Ranged fields result }
 {
-    let Fields { kind, count } = fields;
-    if kind < 1 || kind > MAX_KIND as u128 || count > u16::MAX as u128 {
-        return None;
-    }
-    Some(Entry {
-        kind: kind as u8,
-        count: count as u16,
-    })
+    let entry = Entry {
+        kind: u8::try_from(fields.kind).ok()?,
+        count: u16::try_from(fields.count).ok()?,
+    };
+    (1..=MAX_KIND).contains(&entry.kind).then_some(entry)
 }
 
 /// The entry that a line writes, its end left out. The whole line is judged for its form before any
@@ -58,11 +45,6 @@ fn within(fields: Fields) -> Option<Entry>
 pub fn parse(line: &[u8]) -> Result<Entry, LineFault>
     ensures { LineRead line.now result }
 {
-    let Some(fields) = fields_of(line) else {
-        return Err(LineFault::Malformed);
-    };
-    match within(fields) {
-        Some(entry) => Ok(entry),
-        None => Err(LineFault::OutOfRange),
-    }
+    let fields = fields_of(line).ok_or(LineFault::Malformed)?;
+    within(fields).ok_or(LineFault::OutOfRange)
 }

@@ -1,49 +1,38 @@
 // The reader of a stock text.
-ghost use Rattle.stock.specs.Texts.{ReadSole, StockRead, UnlessEmpty};
+ghost use Rattle.text.specs.Texts.{LineTold};
+ghost use Rattle.stock.specs.declared.faults.StockFault.TheVariants.{Line};
+ghost use Rattle.stock.specs.Lines.{LineRead};
+ghost use Rattle.stock.specs.Texts.{ReadSole, StockRead};
 
 use crate::faults::StockFault;
-use crate::line::parse;
+use crate::line::{Entry, parse};
 use crate::stock::Stock;
-use text::{LineFault, MAX_BYTES, cut};
+use text::{LineFault, TextLines};
 
-// The stock that so many lines list. No lines list none, which is a fault.
-fn unless_empty(stock: Stock, lines: usize) -> Result<Stock, StockFault>
-    ensures { UnlessEmpty stock lines result }
+// The entry of a line, or why the line is refused by itself.
+// By hand for each format: one public function for all would ask something of the parser that it is given.
+fn entry_of(line: usize, bytes: Result<&[u8], LineFault>) -> Result<Entry, StockFault>
+    ensures { LineTold LineRead Line line bytes.entry result }
 {
-    if lines == 0 {
-        Err(StockFault::Empty)
-    } else {
-        Ok(stock)
-    }
+    bytes
+        .and_then(parse)
+        .map_err(|fault| StockFault::Line { line, fault })
 }
 
-// Reads line by line, up to the first fault.
+// Reads line by line, up to the first fault. A text that lists nothing is a fault.
 fn read_lines(text: &[u8]) -> Result<Stock, StockFault>
     ensures { StockRead text.now result }
 {
-    if text.len() > MAX_BYTES {
-        return Err(StockFault::TooLong);
-    }
+    let lines = TextLines::new(text).ok_or(StockFault::TooLong)?;
     let mut stock = Stock::new();
-    let mut left = text;
-    let mut count = 0;
-    while !left.is_empty() {
-        let line = count + 1;
-        let Some((bytes, rest)) = cut(left, b'\n') else {
-            return Err(StockFault::Line {
-                line,
-                fault: LineFault::Malformed,
-            });
-        };
-        let entry = match parse(bytes) {
-            Ok(entry) => entry,
-            Err(fault) => return Err(StockFault::Line { line, fault }),
-        };
+    for (line, bytes) in lines {
+        let entry = entry_of(line, bytes)?;
         stock = stock.add(entry, line)?;
-        count += 1;
-        left = rest;
     }
-    unless_empty(stock, count)
+    if text.is_empty() {
+        return Err(StockFault::Empty);
+    }
+    Ok(stock)
 }
 
 /// Reads the stock that a text lists. A text without lines is a fault, and never means plenty.

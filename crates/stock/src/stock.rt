@@ -43,12 +43,10 @@ impl Stock {
     pub fn count(&self, kind: u8) -> u16
         ensures { result ≡ in_stock self.now kind }
     {
-        if kind > MAX_KIND {
-            return 0;
-        }
-        match self.counts[kind as usize] {
-            Some(count) => count,
-            None => 0,
-        }
+        self.counts
+            .get(kind as usize)
+            .copied()
+            .flatten()
+            .unwrap_or(0)
     }
 }

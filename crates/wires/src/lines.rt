@@ -9,13 +9,15 @@ use node_line::{layer_name, letter_byte};
 use text::LineBuffer;
 
 // The byte of a mark.
-fn mark_byte(mark: Mark) -> u8
-    ensures { result ≡ mark_byte mark }
-{
-    match mark {
-        Mark::Read => b'r',
-        Mark::Write => b'w',
-        Mark::Recovery => b'v',
+impl From<Mark> for u8 {
+    ghost from_gives = { λ mark byte. byte ≡ mark_byte mark };
+
+    fn from(mark: Mark) -> u8 {
+        match mark {
+            Mark::Read => b'r',
+            Mark::Write => b'w',
+            Mark::Recovery => b'v',
+        }
     }
 }
 
@@ -49,7 +51,8 @@ pub fn macro_line(node: u8, m: Macro) -> LineBuffer
 
 /// The line of a layer, with its end.
 pub fn layer_line(joint: Joint) -> LineBuffer
-    ensures { line_text result ≡ layer_line joint.layer joint.own.root joint.a.root joint.b.root joint.own.shape ++ (10 ∷ []) }
+    ensures { let j = joint in
+        line_text result ≡ layer_line j.layer j.own.root j.a.root j.b.root j.own.shape ++ (10 ∷ []) }
 {
     let line = LineBuffer::new()
         .word(layer_name(joint.layer))
@@ -67,7 +70,7 @@ pub fn wire_line(wire: Wire) -> LineBuffer
     ensures { line_text result ≡ wire_line wire ++ (10 ∷ []) }
 {
     LineBuffer::new()
-        .byte(mark_byte(wire.mark))
+        .byte(wire.mark.into())
         .byte(b'\t')
         .number(wire.node as u64)
         .byte(b'\t')

@@ -23,15 +23,16 @@ pub struct Wire {
     pub inner: u16,
 }
 
-/// The wires of one port: one, or two in this order.
+/// The wires of one port: one, or two in this order. It is no list, since no port has none.
 #[derive(Clone, Copy)]
 pub enum PortWires {
     One(Wire),
     Two(Wire, Wire),
 }
 
-/// A memory of a plan: the node that it ends with, and its shape.
-#[derive(Clone, Copy)]
+/// A memory of a plan: the node that it ends with, and its shape. The default fills the places of a
+/// fixed buffer that hold no memory.
+#[derive(Clone, Copy, Default)]
 pub struct Part {
     pub root: u8,
     pub shape: Shape,
@@ -86,7 +87,8 @@ impl Joint {
     // ports of a half are first the outer ones, then one for each write port of the other half. Halves
     // that fit have outer ones.
     fn xor_writes(self, port: u8) -> PortWires
-        ensures { listed result ≡ xor_writes self.own.root self.a.root self.b.root self.a.shape self.b.shape port }
+        ensures { let a = self.a in let b = self.b in
+            listed result ≡ xor_writes self.own.root a.root b.root a.shape b.shape port }
     {
         let a = self.a;
         let b = self.b;

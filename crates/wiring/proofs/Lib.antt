@@ -1,6 +1,5 @@
 pub mod Continuing
 pub mod Stacking
-pub mod Walking
 pub mod Sounding
 pub mod Reckoning
 pub mod Sole

@@ -1,14 +1,11 @@
 -- The lines of a plan have as many macros' lines as it has macros.
-use Rattle.std.proofs.Common.{◌≡◌, ℕ, zero, suc, ◌+◌, ◌-◌, ◌/◌, ◌%◌, false, cond, eqb, ltb, List, [], ◌∷◌, ◌++◌, map, length, take, Some, None, Ok, Err, codes, decimal, Option, Result, sym, refl, ap, ◌∙◌, append_assoc, add_assoc, zero-add, arith}
-use Rattle.std.specs.Fmt.{digits, digits_onto, digit_glyph}
+use Rattle.std.proofs.Common.{◌≡◌, ℕ, ◌+◌, ◌-◌, cond, List, [], ◌∷◌, ◌++◌, map, length, take, Some, None, Ok, Err, codes, decimal, Option, Result, sym, refl, ap, ◌∙◌, append_assoc, add_assoc, zero-add, arith}
 use Rattle.std.specs.List.{AllByRecursion}
-use Rattle.std.proofs.ByRecursion.{All-append}
+use Rattle.std.proofs.lemmas.Grind.{flat_map-append}
 use Rattle.std.proofs.lemmas.List.{take_at}
-use Rattle.std.proofs.lemmas.Bool.{cond_both, ne_eqb}
+use Rattle.std.proofs.lemmas.Bool.{ne_eqb}
 use Rattle.text.specs.Fields.{tabbed}
-use Rattle.text.proofs.Cuts.{Free, free_by_test}
-use Rattle.word.specs.declared.Letter.{Letter}
-use Rattle.word.specs.declared.Letter.TheVariants.{H, B, S, O}
+use Rattle.text.proofs.Cuts.{Free, free_by_test, free_decimal, free_then}
 use Rattle.node.specs.declared.node.Layer.{Layer}
 use Rattle.node.specs.declared.node.Layer.TheVariants.{Replicate, Lvt, Xor, Depth, Width}
 use Rattle.node.specs.declared.node.Macro.{Macro}
@@ -18,57 +15,25 @@ use Rattle.node.specs.declared.shape.Shape.{Shape}
 use Rattle.node.specs.declared.verdict.Top.{Top}
 use Rattle.node.specs.Nodes.{over, is_macro}
 use Rattle.node.specs.Plans.{macro_count}
-use Rattle.node_line.specs.Lines.{layer_name, letter_byte}
+use Rattle.node_line.specs.Lines.{layer_name}
+use Rattle.node_line.proofs.Rows.{letter_free, name_free}
 use Rattle.seal.specs.Sound.{Sound}
 use Rattle.wires.specs.declared.wire.Mark.{Mark}
 use Rattle.wires.specs.declared.wire.Mark.TheVariants.{Read, Write, Recovery}
 use Rattle.wires.specs.declared.wire.Wire.{Wire}
 use Rattle.wires.specs.Lines.{macro_line, layer_line, wire_line, top_line, mark_byte}
 use Rattle.wires.specs.Wires.{wires_of}
-use Rattle.wiring.specs.declared.faults.NetlistFault.{NetlistFault}
-use Rattle.wiring.specs.declared.faults.NetlistFault.TheVariants.{NoRoom}
+use Rattle.page.specs.declared.faults.RoomFault.{RoomFault}
+use Rattle.page.specs.declared.faults.RoomFault.TheVariants.{NoRoom}
 use Rattle.wiring.specs.Counting.{macro_here, macros_later, macro_lines, MacrosCounted}
 use Rattle.wiring.specs.Netlists.{Wired, single, layered, layer_lines, lines_text, netlist_text, NetlistWritten}
-use Rattle.wiring.proofs.Continuing.{text_append}
 use Rattle.wiring.proofs.Sounding.{sound_macros}
 
--- no digit is an end of line
-glyph_free : (d : ℕ) → digit_glyph false d ≡ 10 → ⊥
-glyph_free d = cond_both (ltb d 10) (48 + d) (87 + d) (λ (b : ℕ). b ≡ 10 → ⊥) (λ _ e. omega arith) (λ _ e. omega arith)
-
--- so no number holds one
-spelled_free : (k n : ℕ) (acc : List ℕ) → Free 10 acc → Free 10 (digits_onto k 10 false n acc)
-spelled_free zero n acc h = h
-spelled_free (suc k) n acc h =
-    cond_both (eqb (n / 10) 0) (digit_glyph false (n % 10) ∷ acc) (digits_onto k 10 false (n / 10) (digit_glyph false (n % 10) ∷ acc)) (Free 10)
-    (λ _. (glyph_free (n % 10), h))
-    (λ _. spelled_free k (n / 10) (digit_glyph false (n % 10) ∷ acc) (glyph_free (n % 10), h))
-
-free_decimal : (n : ℕ) → Free 10 (decimal n)
-unfolding digits
-free_decimal n = spelled_free 64 n [] tt
-
--- nor do fields with a TAB between them
-free_then : (a b : List ℕ) → Free 10 a → Free 10 b → Free 10 (a ++ (9 ∷ b))
-free_then a b h k = All-append (λ c. c ≡ 10 → ⊥) a (9 ∷ b) h ((λ e. omega arith), k)
-
-letter_free : (x : Letter) → letter_byte x ≡ 10 → ⊥
-letter_free H e = omega arith
-letter_free B e = omega arith
-letter_free S e = omega arith
-letter_free O e = omega arith
-
+-- no mark is an end of line
 mark_free : (k : Mark) → mark_byte k ≡ 10 → ⊥
 mark_free Read e = omega arith
 mark_free Write e = omega arith
 mark_free Recovery e = omega arith
-
-name_free : (l : Layer) → Free 10 (layer_name l)
-name_free Replicate = free_by_test 10 (codes "replicate") refl
-name_free Lvt = free_by_test 10 (codes "lvt") refl
-name_free Xor = free_by_test 10 (codes "xor") refl
-name_free Depth = free_by_test 10 (codes "depth") refl
-name_free Width = free_by_test 10 (codes "width") refl
 
 -- three numbers
 numbers_free : (a b d : ℕ) → Free 10 (decimal a ++ (9 ∷ (decimal b ++ (9 ∷ decimal d))))
@@ -156,7 +121,7 @@ count_append (n ∷ ns) ms = ap (λ k. cond (is_macro n) 1 0 + k) (count_append 
 -- the lines of two halves and their layer
 halves_rest : (ls ms own : List (List ℕ)) (rest : List ℕ) → lines_text (ls ++ (ms ++ own)) ++ rest ≡ lines_text ls ++ (lines_text ms ++ (lines_text own ++ rest))
 halves_rest ls ms own rest =
-    ap (λ t. t ++ rest) (text_append ls (ms ++ own) ∙ ap (λ t. lines_text ls ++ t) (text_append ms own))
+    ap (λ t. t ++ rest) (flat_map-append (λ l. l ++ (10 ∷ [])) ls (ms ++ own) ∙ ap (λ t. lines_text ls ++ t) (flat_map-append (λ l. l ++ (10 ∷ [])) ms own))
     ∙ append_assoc (lines_text ls) (lines_text ms ++ lines_text own) rest
     ∙ ap (λ t. lines_text ls ++ t) (append_assoc (lines_text ms) (lines_text own) rest)
 
@@ -180,7 +145,7 @@ netlist_counted last macros wired =
     ∙ omega (arith, line_counted (top_line last macros) [] (top_other last macros).free, (top_other last macros).unlike (10 ∷ []))
 
 -- the text that is written, too
-pub macros_counted : (ns : List Node) (top : Option Top) (old new : List ℕ) (r : Result ℕ NetlistFault) → ∥ Sound ns top ∥₁ → NetlistWritten ns top old new r → MacrosCounted top new r
+pub macros_counted : (ns : List Node) (top : Option Top) (old new : List ℕ) (r : Result ℕ RoomFault) → ∥ Sound ns top ∥₁ → NetlistWritten ns top old new r → MacrosCounted top new r
 macros_counted ns (Some t) old new (Ok n) h (ls, wired, whole, room, is) =
     let last = length ns - 1 in
     ap (λ (bs : List ℕ). macro_lines (take n bs)) is

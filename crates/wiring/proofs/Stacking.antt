@@ -1,5 +1,5 @@
 -- What a node does to the stack, and to the parts that stand on it.
-use Rattle.std.proofs.Common.{◌≡◌, ℕ, ◌+◌, ◌-◌, ◌<◌, List, [], ◌∷◌, ◌++◌, reverse, length, get_or, take, drop, sym, refl, ◌∙◌, subst, subst₂, append_assoc, arith, length-append}
+use Rattle.std.proofs.Common.{◌≡◌, ℕ, ◌+◌, ◌-◌, ◌<◌, List, [], ◌∷◌, ◌++◌, length, get_or, take, drop, sym, refl, ◌∙◌, subst, subst₂, append_assoc, arith, length-append}
 use mathlib.Core.Path.{subst₃}
 use Rattle.std.proofs.lemmas.List.{length-take-le, take_more}
 use Rattle.node.specs.declared.faults.NodeFault.{NodeFault}
@@ -10,15 +10,10 @@ use Rattle.node.specs.declared.shape.Shape.{Shape}
 use Rattle.node.specs.Nodes.{Fits, over}
 use Rattle.node.specs.Plans as plans
 use Rattle.node.proofs.Sole.{refused_none}
-use Rattle.node.proofs.Stacking.{top_put, split_at}
+use Rattle.node.proofs.Stacking.{split_at}
 use Rattle.wires.specs.declared.wire.Part.{Part}
-use Rattle.wiring.specs.declared.stack.Stack.{Stack}
 use Rattle.wiring.specs.Netlists.{Wired, single, layered, layer_lines}
-use Rattle.wiring.specs.Parts.{held, shapes, Covered, Parts, none, then, Taken, NoPlan}
-
--- a part on top of the first ones
-pub covered_held : (old new : Stack) (below : ℕ) (p : Part) → Covered old below p new → below < length old.parts → held new ≡ p ∷ reverse (take below old.parts)
-covered_held old new below p h room = (λ i. reverse (take (h.0 i) (h.1 i))) ∙ top_put old.parts below p room
+use Rattle.wiring.specs.Parts.{shapes, Parts, none, then, Taken, NoPlan}
 
 -- what is wired is a plan
 pub wired_plan : {start : ℕ} {ns : List Node} {s : Shape} {ls : List (List ℕ)} → Wired start ns s ls → plans.Plan ns s

@@ -2,7 +2,7 @@
 use Rattle.std.specs.Prelude.{◌≡◌, ℕ, ◌+◌, Bool, true, false, cond, ◌&&◌, List, [], ◌∷◌, take, Ok, Err, codes, Option, Result, ◌==◌}
 use Rattle.node.specs.declared.verdict.Top.{Top}
 use Rattle.seal.specs.Sealing.{top_macros}
-use Rattle.wiring.specs.declared.faults.NetlistFault.{NetlistFault}
+use Rattle.page.specs.declared.faults.RoomFault.{RoomFault}
 
 -- whether bytes begin with others
 abbrev pub begins : List ℕ → List ℕ → Bool
@@ -24,6 +24,6 @@ abbrev pub macro_lines : List ℕ → ℕ
 macro_lines bs = macro_here bs + macros_later bs
 
 -- the text that is written has as many macros' lines as the plan has macros
-abbrev pub MacrosCounted : Option Top → List ℕ → Result ℕ NetlistFault → Type 0
+abbrev pub MacrosCounted : Option Top → List ℕ → Result ℕ RoomFault → Type 0
 MacrosCounted top new (Ok n) = macro_lines (take n new) ≡ top_macros top
 MacrosCounted top new (Err f) = Unit {0}

@@ -1,4 +1,4 @@
-pub mod Faults
-pub mod Netlists
 pub mod Counting
+pub mod Netlists
 pub mod Parts
+pub mod Walking

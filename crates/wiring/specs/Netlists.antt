@@ -10,8 +10,8 @@ use Rattle.node.specs.declared.verdict.Top.{Top}
 use Rattle.node.specs.Nodes.{InRange, Fits, shape_of, over}
 use Rattle.wires.specs.Lines.{macro_line, layer_line, wire_line, top_line}
 use Rattle.wires.specs.Wires.{wires_of}
-use Rattle.wiring.specs.declared.faults.NetlistFault.{NetlistFault}
-use Rattle.wiring.specs.declared.faults.NetlistFault.TheVariants.{NoRoom}
+use Rattle.page.specs.declared.faults.RoomFault.{RoomFault}
+use Rattle.page.specs.declared.faults.RoomFault.TheVariants.{NoRoom}
 
 -- the lines of a layer at the node n, over halves of the shapes sa and sb that end with the nodes a and b: its own,
 -- then those of its wires
@@ -32,9 +32,14 @@ lines_text ls = flat_map (λ l. l ++ (10 ∷ [])) ls
 abbrev pub netlist_text : List (List ℕ) → ℕ → ℕ → List ℕ
 netlist_text ls last macros = lines_text ls ++ (top_line last macros ++ (10 ∷ []))
 
+-- bytes are the netlist of nodes with their top
+abbrev pub NetlistText : List Node → Top → List ℕ → Type 0
+NetlistText ns t bytes =
+    (ls : List (List ℕ)) × Wired 0 ns t.shape ls × (bytes ≡ netlist_text ls (length ns - 1) t.macros)
+
 -- what writing the netlist of nodes with their top into a buffer answers: the length of the text, which is at the front
 -- of the buffer; or that it has no room, and the buffer is as it was. The empty plan has no lines
-abbrev pub NetlistWritten : List Node → Option Top → List ℕ → List ℕ → Result ℕ NetlistFault → Type 0
+abbrev pub NetlistWritten : List Node → Option Top → List ℕ → List ℕ → Result ℕ RoomFault → Type 0
 NetlistWritten ns (Some t) old new (Ok n) =
     (ls : List (List ℕ))
     × Wired 0 ns t.shape ls
@@ -47,5 +52,5 @@ NetlistWritten ns None old new (Ok n) = (n ≡ 0) × (new ≡ old)
 NetlistWritten ns None old new (Err NoRoom) = ⊥
 
 -- no other answer to these nodes and this buffer would do
-abbrev pub NetlistSole : List Node → Option Top → List ℕ → List ℕ → Result ℕ NetlistFault → Type 0
-NetlistSole ns top old new r = (new' : List ℕ) (r' : Result ℕ NetlistFault) → NetlistWritten ns top old new' r' → (new' ≡ new) × (r' ≡ r)
+abbrev pub NetlistSole : List Node → Option Top → List ℕ → List ℕ → Result ℕ RoomFault → Type 0
+NetlistSole ns top old new r = (new' : List ℕ) (r' : Result ℕ RoomFault) → NetlistWritten ns top old new' r' → (new' ≡ new) × (r' ≡ r)

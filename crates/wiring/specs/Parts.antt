@@ -1,6 +1,7 @@
--- What the writer holds on its way, which no other crate sees: the memories that the nodes so far have made, and where the text ends.
-use Rattle.std.specs.Prelude.{◌≡◌, ℕ, ◌+◌, ◌-◌, ◌<◌, ◌≤◌, List, [], ◌∷◌, ◌++◌, map, reverse, length, take, Some, None, Ok, Err, Option, Result, slice_set}
+-- What the writer holds on its way, which no other crate sees: the memories that the nodes so far have made.
+use Rattle.std.specs.Prelude.{◌≡◌, ℕ, ◌+◌, ◌-◌, ◌≤◌, List, [], ◌∷◌, ◌++◌, map, reverse, length, Ok, Err, Result}
 use Rattle.std.specs.List.{flat_map}
+use Rattle.arrayvec.specs.ArrayVec.{ArrayVec, array_vec_len}
 use Rattle.node.specs.declared.faults.NodeFault.{NodeFault}
 use Rattle.node.specs.declared.node.Layer.{Layer}
 use Rattle.node.specs.declared.node.Node.{Node}
@@ -8,45 +9,37 @@ use Rattle.node.specs.declared.node.Node.TheVariants.{Macro as macro_node, Layer
 use Rattle.node.specs.declared.shape.Shape.{Shape}
 use Rattle.node.specs.Nodes.{InRange, Fits, shape_of, over}
 use Rattle.node.specs.Plans.{Plan, NodeRefused}
-use Rattle.page.specs.Pages.{Page}
+use Rattle.page.specs.declared.cursor.Cursor.{Cursor}
+use Rattle.page.specs.Cursors.{Grows}
 use Rattle.wires.specs.declared.wire.Joint.{Joint}
 use Rattle.wires.specs.declared.wire.Part.{Part}
 use Rattle.wires.specs.Lines.{macro_line, layer_line, wire_line}
 use Rattle.wires.specs.Ports.{joint_reads, joint_writes}
 use Rattle.wires.specs.Wires.{upto}
-use Rattle.wiring.specs.declared.faults.NetlistFault.{NetlistFault}
-use Rattle.wiring.specs.declared.faults.NetlistFault.TheVariants.{NoRoom}
-use Rattle.wiring.specs.declared.progress.Progress.{Progress}
-use Rattle.wiring.specs.declared.stack.Stack.{Stack}
-use Rattle.wiring.specs.Netlists.{Wired, layer_lines, lines_text, netlist_text}
+use Rattle.wiring.specs.Netlists.{Wired, layer_lines, lines_text}
 
 -- the parts on a stack, the top first
-abbrev pub held : Stack → List Part
-held s = reverse (take s.count s.parts)
+abbrev pub held : ArrayVec Part → List Part
+held s = reverse s.items
 
 -- the shapes of parts
 abbrev pub shapes : List Part → List Shape
 shapes ps = map (λ p. p.shape) ps
 
--- a part is on top of `below` others
-abbrev pub Covered : Stack → ℕ → Part → Stack → Type 0
-Covered old below part new = (new.count ≡ below + 1) × (new.parts ≡ slice_set old.parts below part)
-
 -- the two parts on top fit under a layer at the node n, and are replaced by what it makes
-pub record Joins (old : Stack) (l : Layer) (n : ℕ) (new : Stack) (j : Joint) : Type 0 where
+pub record Joins (old : ArrayVec Part) (l : Layer) (n : ℕ) (new : ArrayVec Part) (j : Joint) : Type 0 where
   pub rest : List Part
   pub halves : held old ≡ j.b ∷ (j.a ∷ rest)
   pub fits : Fits l j.a.shape j.b.shape
   pub layer : j.layer ≡ l
   pub own : j.own ≡ record { root = n; shape = over l j.a.shape j.b.shape }
   pub after : held new ≡ j.own ∷ rest
-  pub count : new.count ≤ old.count
-  pub room : length new.parts ≡ length old.parts
+  pub count : array_vec_len new ≤ array_vec_len old
 
 -- a layer joins the two parts on top, or is refused there
-abbrev pub Joined : Stack → Layer → ℕ → Option (Stack × Joint) → Type 0
-Joined old l n (Some p) = Joins old l n p.0 p.1
-Joined old l n None = (f : NodeFault) × NodeRefused (shapes (held old)) (layer_node l) f
+abbrev pub Joined : ArrayVec Part → Layer → ℕ → ArrayVec Part → Result Joint NodeFault → Type 0
+Joined old l n new (Ok j) = Joins old l n new j
+Joined old l n new (Err f) = NodeRefused (shapes (held old)) (layer_node l) f
 
 -- the lines of a layer with its halves
 abbrev pub joint_lines : Joint → List (List ℕ)
@@ -54,9 +47,9 @@ joint_lines j =
     layer_line j.layer j.own.root j.a.root j.b.root j.own.shape
     ∷ map wire_line (flat_map (joint_reads j) (upto j.own.shape.reads) ++ flat_map (joint_writes j) (upto j.own.shape.writes))
 
--- lines are added to whatever text stood on the page before, if it has room
-pub record Continues (old new : List ℕ) (at : Option ℕ) (ls : List (List ℕ)) (end : Option ℕ) : Type 0 where
-  pub page : (start text : List ℕ) → Page start old text at → Page start new (text ++ lines_text ls) end
+-- lines are added to whatever text is before a cursor
+pub record Continues (old : Cursor) (ls : List (List ℕ)) (new : Cursor) : Type 0 where
+  pub grows : Grows old (lines_text ls) new
 
 -- what the node at the number n makes of the parts before it, and its lines
 abbrev pub Taken : ℕ → List Part → Node → List Part → List (List ℕ) → Type 0
@@ -71,17 +64,16 @@ Taken n ps (layer_node l) ps' ls =
     × (ls ≡ layer_lines l n a.root b.root a.shape b.shape)
 
 -- a node is taken and its lines are added
-pub record Takes (old new : List ℕ) (n : ℕ) (node : Node) (p q : Progress) : Type 0 where
+pub record Takes (old : ArrayVec Part) (n : ℕ) (node : Node) (new : ArrayVec Part) (start end : Cursor) : Type 0 where
   pub lines : List (List ℕ)
-  pub taken : Taken n (held p.stack) node (held q.stack) lines
-  pub written : Continues old new p.end lines q.end
-  pub count : q.stack.count ≤ p.stack.count + 1
-  pub room : length q.stack.parts ≡ length p.stack.parts
+  pub taken : Taken n (held old) node (held new) lines
+  pub written : Continues start lines end
+  pub count : array_vec_len new ≤ array_vec_len old + 1
 
 -- a node is taken, or refused
-abbrev pub Added : List ℕ → List ℕ → ℕ → Node → Progress → Option Progress → Type 0
-Added old new n node p (Some q) = Takes old new n node p q
-Added old new n node p None = (f : NodeFault) × NodeRefused (shapes (held p.stack)) node f
+abbrev pub Added : ArrayVec Part → ℕ → Node → ArrayVec Part → Cursor → Cursor → Result Unit NodeFault → Type 0
+Added old n node new start end (Ok _) = Takes old n node new start end
+Added old n node new start end (Err f) = NodeRefused (shapes (held old)) node f
 
 -- the nodes of several memories, one after another, with the parts, the last memory's first, and the lines
 pub data Parts : List Node → List Part → List (List ℕ) → Type 0 where
@@ -92,20 +84,7 @@ pub data Parts : List Node → List Part → List (List ℕ) → Type 0 where
 abbrev pub NoPlan : List Node → Type 0
 NoPlan ns = (s : Shape) → Plan ns s → ⊥
 
--- the lines of all nodes are on the page, or a node is refused
-abbrev pub Lined : List Node → List ℕ → List ℕ → Option Progress → Type 0
-Lined ns old new (Some p) = (ls : List (List ℕ)) × Parts ns (held p.stack) ls × Page old new (lines_text ls) p.end
-Lined ns old new None = NoPlan ns
-
--- the whole text is on the page
-pub record Drawn (ns : List Node) (macros : ℕ) (old new : List ℕ) (size : Option ℕ) : Type 0 where
-  pub parts : List Part
-  pub lines : List (List ℕ)
-  pub built : Parts ns parts lines
-  pub page : Page old new (netlist_text lines (length ns - 1) macros) size
-
--- a text of a size fits the room, or has none, or is too long for any
-abbrev pub Fitting : Option ℕ → ℕ → Result ℕ NetlistFault → Type 0
-Fitting size room (Ok n) = (size ≡ Some n) × (n ≤ room)
-Fitting None room (Err NoRoom) = Unit {0}
-Fitting (Some n) room (Err NoRoom) = room < n
+-- the lines of all nodes are added, or a node is refused
+abbrev pub Lined : List Node → Cursor → Cursor → Result Unit NodeFault → Type 0
+Lined ns old new (Ok _) = (ps : List Part) × (ls : List (List ℕ)) × Parts ns ps ls × Continues old ls new
+Lined ns old new (Err f) = NoPlan ns

@@ -1,61 +1,28 @@
 // The memories that the nodes so far have made.
-ghost use Rattle.std.specs.Prelude.{◌≡◌, ◌<◌, ◌≤◌, []};
+ghost use Rattle.std.specs.Prelude.{◌≤◌};
+ghost use Rattle.arrayvec.specs.ArrayVec.{array_vec_len};
 ghost use Rattle.node.specs.Limits.{max_nodes};
-ghost use Rattle.wiring.specs.Parts.{held, Covered, Joined};
+ghost use Rattle.wiring.specs.Parts.{Joined};
 
-use node::{Layer, MAX_NODES, Shape};
+use arrayvec::ArrayVec;
+use node::{Layer, MAX_NODES, NodeFault};
 use wires::{Joint, Part};
-use word::Letter;
 
 // The memories that the nodes so far have made, the last one on top.
-#[derive(Clone, Copy)]
-pub(crate) struct Stack {
-    pub(crate) parts: [Part; MAX_NODES],
-    pub(crate) count: usize,
-}
+pub(crate) type Stack = ArrayVec<Part, MAX_NODES>;
 
-impl Stack {
-    pub(crate) fn new() -> Stack
-        ensures { (held result ≡ []) × (result.count ≡ 0) }
-    {
-        let shape = Shape {
-            letter: Letter::H,
-            reads: 0,
-            writes: 0,
-            depth: 0,
-        };
-        Stack {
-            parts: [Part { root: 0, shape }; MAX_NODES],
-            count: 0,
-        }
-    }
-
-    // One memory more on top of the lowest `below`; those above them are gone.
-    pub(crate) fn put(mut self, below: usize, part: Part) -> Stack
-        requires { below < max_nodes }
-        ensures { Covered self below part result }
-    {
-        self.parts[below] = part;
-        self.count = below + 1;
-        self
-    }
-
-    // The layer at a node over the two memories on top, and the stack with what it makes in their
-    // place; none where it is refused.
-    pub(crate) fn join(self, layer: Layer, node: u8) -> Option<(Stack, Joint)>
-        requires { self.count ≤ max_nodes }
-        ensures { Joined self layer node result }
-    {
-        let count = self.count;
-        if count < 2 {
-            return None;
-        }
-        let a = self.parts[count - 2];
-        let b = self.parts[count - 1];
-        let Some(shape) = layer.over(a.shape, b.shape) else {
-            return None;
-        };
-        let own = Part { root: node, shape };
-        Some((self.put(count - 2, own), Joint { layer, own, a, b }))
-    }
+// The layer at a node over the two memories on top; what it makes takes their place. The check's own `join` keeps no
+// node: one function for both would be given what to keep, as a closure, and the halves back.
+pub(crate) fn join(stack: &mut Stack, layer: Layer, node: u8) -> Result<Joint, NodeFault>
+    requires { array_vec_len stack.old ≤ max_nodes }
+    ensures { Joined stack.old layer node stack.new result }
+{
+    // One refusal for both: two `ok_or` would name it twice.
+    let (Some(b), Some(a)) = (stack.pop(), stack.pop()) else {
+        return Err(NodeFault::TooFewMemories);
+    };
+    let shape = layer.over(a.shape, b.shape).ok_or(NodeFault::Unfit)?;
+    let own = Part { root: node, shape };
+    stack.push(own);
+    Ok(Joint { layer, own, a, b })
 }

@@ -1,71 +1,69 @@
-// The lines of a node, added to a page.
+// The lines of a node, appended at a cursor.
 ghost use Rattle.std.specs.Prelude.{◌≡◌, ℕ, List, [], ◌∷◌, ◌++◌, map};
 ghost use Rattle.std.specs.List.{flat_map};
 ghost use Rattle.text.specs.Lines.{line_text};
+ghost use Rattle.wires.specs.declared.wire.PortWires.{PortWires as port_wires};
+ghost use Rattle.wires.specs.declared.wire.Wire.{Wire as a_wire};
 ghost use Rattle.wires.specs.Lines.{macro_line, wire_line};
-ghost use Rattle.wires.specs.Ports.{listed, joint_reads, joint_writes};
+ghost use Rattle.wires.specs.Ports.{listed};
 ghost use Rattle.wires.specs.Wires.{upto};
 ghost use Rattle.wiring.specs.Parts.{Continues, joint_lines};
 
 use node::Macro;
-use page::append;
+use page::Cursor;
 use text::LineBuffer;
 use wires::{Joint, PortWires, layer_line, macro_line, wire_line};
 
-// Adds a line with its end.
-pub(crate) fn append_line(out: &mut [u8], at: Option<usize>, line: LineBuffer) -> Option<usize>
-    ensures { (bytes : List ℕ) → line_text line ≡ bytes ++ (10 ∷ []) → Continues out.old out.new at (bytes ∷ []) result }
+// Appends a line with its end.
+pub(crate) fn append_line(cursor: &mut Cursor, line: LineBuffer)
+    ensures { (bytes : List ℕ)
+        → line_text line ≡ bytes ++ (10 ∷ [])
+        → Continues cursor.old (bytes ∷ []) cursor.new }
 {
-    append(out, at, line.as_bytes())
+    cursor.append(line.as_bytes());
 }
 
-// Adds the line of a macro.
-pub(crate) fn append_macro(out: &mut [u8], at: Option<usize>, node: u8, m: Macro) -> Option<usize>
-    ensures { Continues out.old out.new at (macro_line node m ∷ []) result }
+// Appends the line of a macro.
+pub(crate) fn append_macro(cursor: &mut Cursor, node: u8, m: Macro)
+    ensures { Continues cursor.old (macro_line node m ∷ []) cursor.new }
 {
-    append_line(out, at, macro_line(node, m))
+    append_line(cursor, macro_line(node, m));
 }
 
-// Adds the lines of the wires of one port.
-fn append_wires(out: &mut [u8], at: Option<usize>, wires: PortWires) -> Option<usize>
-    ensures { Continues out.old out.new at (map wire_line (listed wires)) result }
+// Appends the lines of the wires of one port.
+fn append_wires(cursor: &mut Cursor, wires: PortWires)
+    ensures { Continues cursor.old (map wire_line (listed wires)) cursor.new }
 {
     match wires {
-        PortWires::One(only) => append_line(out, at, wire_line(only)),
+        PortWires::One(only) => append_line(cursor, wire_line(only)),
         PortWires::Two(first, second) => {
-            let end = append_line(out, at, wire_line(first));
-            append_line(out, end, wire_line(second))
+            append_line(cursor, wire_line(first));
+            append_line(cursor, wire_line(second));
         }
     }
 }
 
-// Adds the lines of the wires of a layer's read ports.
-fn append_reads(out: &mut [u8], at: Option<usize>, joint: Joint) -> Option<usize>
-    ensures { Continues out.old out.new at (map wire_line (flat_map (joint_reads joint) (upto joint.own.shape.reads))) result }
+// Appends the lines of the wires of the ports below `count`.
+fn append_ports<F: Fn(u8) -> PortWires>(cursor: &mut Cursor, count: u8, wires: F)
+    requires { F.IsAlwaysCallable wires }
+    ensures { (of : ℕ → List a_wire)
+        → ((port : ℕ) (ws : port_wires) → F.post wires port ws → listed ws ≡ of port)
+        → Continues cursor.old (map wire_line (flat_map of (upto count))) cursor.new }
 {
-    let mut end = at;
-    for port in 0..joint.own.shape.reads {
-        end = append_wires(out, end, joint.read_wires(port));
+    for port in 0..count {
+        append_wires(cursor, wires(port));
     }
-    end
 }
 
-// Adds the lines of the wires of a layer's write ports.
-fn append_writes(out: &mut [u8], at: Option<usize>, joint: Joint) -> Option<usize>
-    ensures { Continues out.old out.new at (map wire_line (flat_map (joint_writes joint) (upto joint.own.shape.writes))) result }
+// Appends the lines of a layer: its own, then those of its wires.
+pub(crate) fn append_layer(cursor: &mut Cursor, joint: Joint)
+    ensures { Continues cursor.old (joint_lines joint) cursor.new }
 {
-    let mut end = at;
-    for port in 0..joint.own.shape.writes {
-        end = append_wires(out, end, joint.write_wires(port));
-    }
-    end
-}
-
-// Adds the lines of a layer: its own, then those of its wires.
-pub(crate) fn append_layer(out: &mut [u8], at: Option<usize>, joint: Joint) -> Option<usize>
-    ensures { Continues out.old out.new at (joint_lines joint) result }
-{
-    let line = append_line(out, at, layer_line(joint));
-    let reads = append_reads(out, line, joint);
-    append_writes(out, reads, joint)
+    append_line(cursor, layer_line(joint));
+    append_ports(cursor, joint.own.shape.reads, |port| joint.read_wires(port));
+    append_ports(
+        cursor,
+        joint.own.shape.writes,
+        |port| joint.write_wires(port),
+    );
 }

@@ -1,17 +1,24 @@
-use Rattle.std.proofs.Common.{[], ◌∷◌, ◌++◌, length, ap, ◌∙◌, arith, length-append, rules}
-use Rattle.plan_text.proofs.Lines.{one_more, all_read}
+use Rattle.std.proofs.Common.{arith, rules}
+use Rattle.std.proofs.lemmas.Result.{err_from_is_err_and}
+use Rattle.text.proofs.Begins.{taken}
+use Rattle.node_line.specs.Reading.{LineRead}
+use Rattle.plan_text.specs.declared.faults.ReadFault.TheVariants.{Line}
+use Rattle.plan_text.proofs.Turns.{read_more, stopped_full, stopped_many, stopped_refused}
 use Rattle.plan_text.proofs.reader.read_lines.Goals as goal
 
-pub loop-left-smaller : goal.loop-left-smaller
-loop-left-smaller c = omega (arith, ap length c.in-Some.ensures.0 ∙ length-append c.in-Some.bytes.now (10 ∷ c.in-Some.rest.now))
+pub returns-in_err-node : goal.returns-in_err-node
+returns-in_err-node c =
+    let p = err_from_is_err_and c.from_residual-in_err-node.result c.from_residual-in_err-node.ensures.1 in
+    rw (p.1, p.2) (stopped_refused c.loop-line.invariant _ _ _ _ c.in-Some.ensures.steps c.in_err-node.ensures)
 
-pub loop-left-preserved : goal.loop-left-preserved
-loop-left-preserved c =
-    let i = c.loop-left.invariant in
-    let at = c.in-Some.ensures in
-    let told = c.in-Ok.ensures in
-    let p = one_more c.in-Some.bytes.now c.in-Some.rest.now c.in-Ok.node c.loop-left.count i.2 i.1 at.0 told.0 told.1 (search rules) (search rules) in
-    (i.0 ++ c.in-Ok.node ∷ [], p.0, p.1)
+pub returns-then-count-eq-MAX_NODES : goal.returns-then-count-eq-MAX_NODES
+returns-then-count-eq-MAX_NODES c =
+    stopped_many c.loop-line.invariant (taken LineRead Line _ _ _ _ _ c.in-Some.ensures.steps c.in_ok-node.ensures) (omega arith)
 
-pub returns : goal.returns
-returns c = let i = c.loop-left.invariant in (omega arith, (i.0, i.1, all_read i.2 (search rules)))
+pub returns-then-count-nodes : goal.returns-then-count-nodes
+returns-then-count-nodes c =
+    stopped_full c.loop-line.invariant (taken LineRead Line _ _ _ _ _ c.in-Some.ensures.steps c.in_ok-node.ensures) (omega arith) (search rules)
+
+pub loop-line-preserved : goal.loop-line-preserved
+loop-line-preserved c =
+    read_more c.loop-line.invariant (taken LineRead Line _ _ _ _ _ c.in-Some.ensures.steps c.in_ok-node.ensures) (omega arith) (search rules)

@@ -1,15 +1,14 @@
-use Rattle.std.proofs.Common.{ℕ, Result, subst}
-use Rattle.plan_text.specs.declared.faults.ReadFault.{ReadFault}
+use Rattle.std.proofs.Common.{subst, rules}
+use Rattle.plan_text.specs.Writing.{TextWritten}
 use Rattle.plan_text.specs.Trips.{Reread}
-use Rattle.plan_text.proofs.RoundTrips.{by_read, reread}
+use Rattle.plan_text.proofs.RoundTrips.{ends_with_read, reread, went_on}
 use Rattle.plan_text.proofs.trips.reread.Goals as goal
 
-pub returns-in-Ok-read : goal.returns-in-Ok-read
-returns-in-Ok-read c =
-    subst (λ (q : Result ℕ ReadFault). Reread c.args.nodes.now c.args.out.now c.write.new.out c.args.back.now c.read.new.nodes (by_read q)) c.in-Ok-read.is
-    (reread _ _ _ _ _ _ _ c.in-Ok.ensures c.read.ensures.sole)
-
-pub returns-in-Err-read : goal.returns-in-Err-read
-returns-in-Err-read c =
-    subst (λ (q : Result ℕ ReadFault). Reread c.args.nodes.now c.args.out.now c.write.new.out c.args.back.now c.read.new.nodes (by_read q)) c.in-Err-read.is
-    (reread _ _ _ _ _ _ _ c.in-Ok.ensures c.read.ensures.sole)
+pub returns : goal.returns
+returns c =
+    let ns = c.args.nodes.now in
+    let out = c.args.out.now in
+    let was = went_on c.write.result c.in_ok-size.size _ c.in_ok-size.ensures.cases c.in_ok-size.ensures.variant in
+    let written = subst (TextWritten ns out c.write.new.out) was c.write.ensures in
+    subst (Reread ns out c.write.new.out c.args.back.now c.read.new.nodes) (ends_with_read c.read.result c.map_err-2.result (search rules))
+    (reread ns out _ _ _ _ _ written c.read.ensures.sole)

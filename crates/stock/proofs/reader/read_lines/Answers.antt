@@ -1,23 +1,24 @@
-use Rattle.std.proofs.Common.{arith, rules}
+use Rattle.std.proofs.Common.{rules}
 use Rattle.std.proofs.lemmas.Result.{err_from_is_err_and}
-use Rattle.stock.proofs.Turns.{cut_length, read_first, read_more, read_again, read_all}
+use Rattle.text.proofs.Begins.{taken}
+use Rattle.stock.specs.declared.faults.StockFault.TheVariants.{Line}
+use Rattle.stock.specs.Lines.{LineRead}
+use Rattle.stock.proofs.Turns.{read_again, read_first, read_more, read_refused}
 use Rattle.stock.proofs.reader.read_lines.Goals as goal
 
-pub loop-left-init : goal.loop-left-init
-loop-left-init c = read_first c.if-text-gt-MAX_BYTES.false c.new-stock.ensures
+pub loop-line-init : goal.loop-line-init
+loop-line-init c = read_first _ (search rules) c.new-stock.ensures
+
+pub returns-in_err-entry : goal.returns-in_err-entry
+returns-in_err-entry c =
+    let p = err_from_is_err_and c.from_residual-in_err-entry.result c.from_residual-in_err-entry.ensures.1 in
+    rw (p.1, p.2) (read_refused c.loop-line.invariant _ _ _ _ c.in-Some.ensures.steps c.in_err-entry.ensures)
 
 pub returns-in_err-stock : goal.returns-in_err-stock
 returns-in_err-stock c =
-    let p = err_from_is_err_and c.from_residual.result c.from_residual.ensures.1 in
-    let at = c.in-Some.ensures in
-    rw (p.1, p.2) (read_again c.loop-left.invariant _ _ c.in-Ok.entry _ at.0 at.1 c.in-Ok.ensures c.in_err-stock.ensures)
+    let p = err_from_is_err_and c.from_residual-in_err-stock.result c.from_residual-in_err-stock.ensures.1 in
+    rw (p.1, p.2) (read_again c.loop-line.invariant _ _ _ _ (taken LineRead Line _ _ _ _ _ c.in-Some.ensures.steps c.in_ok-entry.ensures) c.in_err-stock.ensures)
 
-pub loop-left-smaller : goal.loop-left-smaller
-loop-left-smaller c = omega (arith, cut_length c.in-Some.bytes.now c.in-Some.rest.now c.in-Some.ensures.0)
-
-pub loop-left-preserved : goal.loop-left-preserved
-loop-left-preserved c =
-    read_more c.loop-left.invariant _ _ c.in-Ok.entry c.in_ok-stock.stock c.in-Some.ensures.0 c.in-Ok.ensures c.in_ok-stock.ensures
-
-pub returns : goal.returns
-returns c = read_all c.loop-left.invariant _ (search rules) c.unless_empty.ensures
+pub loop-line-preserved : goal.loop-line-preserved
+loop-line-preserved c =
+    read_more c.loop-line.invariant _ _ _ _ (taken LineRead Line _ _ _ _ _ c.in-Some.ensures.steps c.in_ok-entry.ensures) c.in_ok-stock.ensures

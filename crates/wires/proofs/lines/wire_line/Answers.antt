@@ -5,7 +5,7 @@ use Rattle.wires.proofs.lines.wire_line.Goals as goal
 
 pub returns : goal.returns
 returns c =
-    let mark = adds_is (ap (λ (x : ℕ). x ∷ []) c.mark_byte.ensures) (adds_first c.new.ensures c.byte.ensures) in
+    let mark = adds_is (ap (λ (x : ℕ). x ∷ []) c.into.ensures) (adds_first c.new.ensures c.byte.ensures) in
     let node = adds_then (adds_then mark c.byte-2.ensures) c.number.ensures in
     let port = adds_then (adds_then node c.byte-3.ensures) c.number-2.ensures in
     let half = adds_then (adds_then port c.byte-4.ensures) c.number-3.ensures in

@@ -3,4 +3,4 @@ use Rattle.wiring.proofs.Continuing.{continues_line}
 use Rattle.wiring.proofs.writer.append_line.Goals as goal
 
 pub returns : goal.returns
-returns c = λ bytes is. continues_line _ bytes c.append.ensures (c.as_bytes.ensures ∙ is)
+returns c = λ bytes is. continues_line c.args.cursor.now c.append.new.self bytes c.append.ensures (c.as_bytes.ensures ∙ is)
