@@ -9,6 +9,7 @@ use port::WritePort;
 pub const MAX_WORDS: usize = 1_024;
 
 /// A memory over a buffer of cells: a cell for each word, and the latch of the held word after them.
+// The depth stands beside the cells, since the cells above the latch are the caller's.
 #[derive(Drop)]
 pub struct Array<W> {
     pub(crate) cells: Vec<W>,

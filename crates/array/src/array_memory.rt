@@ -70,17 +70,18 @@ impl<W: Word> Memory for Array<W> {
     {
         self.used = false;
         self.port = WritePort::Free;
+        // By index: after a write through a part of a `Vec` nothing is known of its elements.
         for address in 0..self.depth {
             self.cells[address] = W::zero();
         }
     }
 
     fn reads(&self) -> usize {
-        if self.depth > 0 { 1 } else { 0 }
+        usize::from(self.depth > 0)
     }
 
     fn writes(&self) -> usize {
-        if self.depth > 0 { 1 } else { 0 }
+        usize::from(self.depth > 0)
     }
 
     fn depth(&self) -> usize {
@@ -88,21 +89,19 @@ impl<W: Word> Memory for Array<W> {
     }
 
     fn nodes(&self) -> usize {
-        if self.depth > 0 { 1 } else { 0 }
+        usize::from(self.depth > 0)
     }
 
     fn node(&self, i: usize) -> Option<Node> {
-        if self.depth > 0 && i == 0 {
-            Some(Node::Macro(Macro {
+        (i < self.nodes()).then(|| {
+            Node::Macro(Macro {
                 kind: 1,
                 letter: W::letter(),
                 reads: 1,
                 writes: 1,
                 depth: self.depth as u32,
-            }))
-        } else {
-            None
-        }
+            })
+        })
     }
 
     fn is_used(&self, port: usize) -> bool {
@@ -110,11 +109,7 @@ impl<W: Word> Memory for Array<W> {
     }
 
     fn held(&self, port: usize) -> Option<usize> {
-        if port < self.writes() {
-            self.port.address()
-        } else {
-            None
-        }
+        self.port.address().filter(|_| port < self.writes())
     }
 
     fn read(&mut self, port: usize, address: usize) -> Result<W, Refusal>

@@ -1,25 +1,26 @@
--- Macros of the nodes passed so far.
-use Rattle.std.proofs.Common.{◌≡◌, ℕ, zero, suc, ◌+◌, ◌<◌, Bool, cond, List, [], ◌∷◌, length, take, Some, None, ap, add-one, arith}
-use Rattle.std.specs.List.{slice_get}
+-- The macros among the nodes of a plan, each of which is asked for by its place.
+use Rattle.std.proofs.Common.{◌≡◌, ℕ, zero, suc, ◌+◌, List, [], ◌∷◌, length, filter, refl, ap, ◌∙◌, add-one}
+use Rattle.std.specs.List.{slice_get, range_with_len, filter_map}
 use Rattle.node.specs.declared.node.Node.{Node}
 use Rattle.node.specs.Nodes.{is_macro}
 use Rattle.node.specs.Plans.{macro_count}
+use Rattle.node.proofs.Stacking.{length_macros}
 
-count_suc : (p : List Node) (i : ℕ) (n : Node) → slice_get p i ≡ Some n → macro_count (take (suc i) p) ≡ macro_count (take i p) + cond (is_macro n) 1 0
-count_suc [] i n e = let z : ◌≡◌ {A = ℕ} 0 1 = cc in absurd (omega arith)
-count_suc (m ∷ p) zero n e = let f : m ≡ n = cc in rw f (omega arith)
-count_suc (m ∷ p) (suc i) n e = let f = count_suc p i n e in omega arith
+-- the items from place a + 1 on are those of the tail from place a on
+behind_first : (n : Node) (ns : List Node) (a k : ℕ) → filter_map (slice_get (n ∷ ns)) (range_with_len (a + 1) k) ≡ filter_map (slice_get ns) (range_with_len a k)
+behind_first n ns a zero = refl
+behind_first n ns a (suc k) =
+    let here : slice_get (n ∷ ns) (a + 1) ≡ slice_get ns a = ap (slice_get (n ∷ ns)) (add-one a) in
+    let rest = behind_first n ns (a + 1) k in
+    cc
 
--- one node more
-pub count_next : (p : List Node) (i c c' : ℕ) (n : Node) (b : Bool) → slice_get p i ≡ Some n → c ≡ macro_count (take i p) → b ≡ is_macro n → c' ≡ c + cond b 1 0 → c' ≡ macro_count (take (i + 1) p)
-count_next p i c c' n b e f t g =
-    let h = count_suc p i n e in
-    let u : cond {A = ℕ} b 1 0 ≡ cond (is_macro n) 1 0 = ap (λ (v : Bool). cond {A = ℕ} v 1 0) t in
-    let k : macro_count (take (i + 1) p) ≡ macro_count (take (suc i) p) = ap (λ (j : ℕ). macro_count (take j p)) (add-one i) in
-    omega arith
+-- the items at all places are the list
+each_place : (ns : List Node) → filter_map (slice_get ns) (range_with_len 0 (length ns)) ≡ ns
+each_place [] = refl
+each_place (n ∷ ns) = ap (λ (rest : List Node). n ∷ rest) (behind_first n ns 0 (length ns) ∙ each_place ns)
 
--- no node is missing
-pub nth_there : (p : List Node) (i : ℕ) → i < length p → slice_get p i ≡ None → ⊥
-nth_there [] i h e = omega arith
-nth_there (n ∷ p) zero h e = let z : ◌≡◌ {A = ℕ} 0 1 = cc in omega arith
-nth_there (n ∷ p) (suc i) h e = nth_there p i (omega arith) e
+-- so the macros among them are those of the plan
+pub counted : (plan : List Node) (n r : ℕ) → n ≡ length plan → r ≡ length (filter is_macro (filter_map (slice_get plan) (range_with_len 0 n))) → r ≡ macro_count plan
+counted plan n r e h =
+    let all : filter_map (slice_get plan) (range_with_len 0 n) ≡ plan = rw e (each_place plan) in
+    h ∙ ap (λ (ns : List Node). length (filter is_macro ns)) all ∙ length_macros plan

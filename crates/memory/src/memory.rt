@@ -2,9 +2,8 @@
 //
 // No call asks anything of its caller. An implementation says when it is in order; `configure` puts it in
 // order from any state, and every other promise is given on a memory that is in order, and keeps it so.
-ghost use Rattle.std.specs.Prelude.{◌≡◌, ℕ, length};
+ghost use Rattle.std.specs.Prelude.{◌≡◌, length};
 ghost use Rattle.std.specs.List.{slice_get};
-ghost use Rattle.word.specs.declared.Letter.{Letter};
 ghost use Rattle.node.specs.Plans.{macro_count};
 ghost use Rattle.memory.specs.Meaning.{Meaning, Tidy, Planned, Cleared, SameShape};
 ghost use Rattle.memory.specs.Calls.{UsedAt, HeldAt, Waits, MayRead, MayWrite, Read, Write, Edged};
@@ -76,29 +75,17 @@ pub trait Memory {
     fn waits(&self, address: usize) -> bool
         ensures { ordered self.now → Waits (meaning self.now) address result }
     {
-        for port in 0..self.writes() {
-            if let Some(held) = self.held(port) {
-                if held == address {
-                    return true;
-                }
-            }
-        }
-        false
+        (0..self.writes()).any(|port| self.held(port) == Some(address))
     }
 
     /// The number of macros of the plan.
     fn macros(&self) -> usize
         ensures { ordered self.now → result ≡ macro_count (meaning self.now).plan }
     {
-        let mut count = 0;
-        for i in 0..self.nodes() {
-            if let Some(node) = self.node(i) {
-                if node.is_macro() {
-                    count += 1;
-                }
-            }
-        }
-        count
+        (0..self.nodes())
+            .filter_map(|i| self.node(i))
+            .filter(|node| node.is_macro())
+            .count()
     }
 
     /// What `read` would answer.

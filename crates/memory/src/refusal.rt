@@ -6,13 +6,13 @@ ghost use Rattle.memory.specs.Refusals.{refusal};
 #[derive(Clone, Copy)]
 pub enum Refusal {
     /// There is no such port.
-    NoPort,
+    NoPort = 1,
     /// The address is not below the depth.
-    NoAddress,
+    NoAddress = 2,
     /// The port has served a call since the last edge.
-    Busy,
+    Busy = 3,
     /// Another write port holds the address.
-    Held,
+    Held = 4,
 }
 
 impl Refusal {
@@ -20,11 +20,6 @@ impl Refusal {
     pub fn number(self) -> u8
         ensures { result ≡ refusal self }
     {
-        match self {
-            Refusal::NoPort => 1,
-            Refusal::NoAddress => 2,
-            Refusal::Busy => 3,
-            Refusal::Held => 4,
-        }
+        self as u8
     }
 }

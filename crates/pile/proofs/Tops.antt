@@ -13,7 +13,7 @@ use Rattle.memory.specs.Meaning.{Meaning, Planned, whole, void, shaped}
 use Rattle.memory.proofs.Ranges.{plan_ranged}
 use Rattle.planner.specs.declared.listing.Planned.{Planned as Answer}
 use Rattle.planner.specs.Listings.{Listed}
-use Rattle.wiring.specs.declared.faults.NetlistFault.{NetlistFault}
+use Rattle.page.specs.declared.faults.RoomFault.{RoomFault}
 use Rattle.wiring.specs.Counting.{MacrosCounted}
 use Rattle.wiring.specs.Netlists.{NetlistWritten}
 use Rattle.pile.specs.declared.faults.PlanningFault.{PlanningFault}
@@ -56,12 +56,12 @@ listed_own k m ns text old new (Err (planning.Listing f)) planned e (s, kept, to
     (s, top, read, own.1, subst (λ (xs : List Node). Listed xs top s old new (Err f)) own.0 listed)
 
 -- macro lines by the memory's own count
-drawn_macros : {W : Type 0} (k : Letter) (m : Meaning W) (top : Option Top) (new : List ℕ) (r : Result ℕ NetlistFault) → TopOf k m top → MacrosCounted top new r → MacrosDrawn m new r
+drawn_macros : {W : Type 0} (k : Letter) (m : Meaning W) (top : Option Top) (new : List ℕ) (r : Result ℕ RoomFault) → TopOf k m top → MacrosCounted top new r → MacrosDrawn m new r
 drawn_macros k m top new (Ok n) own counted = counted ∙ own_macros k m top own
 drawn_macros k m top new (Err f) own counted = counted
 
 -- nodes of a memory's plan, drawn
-pub drawn_own : {W : Type 0} (k : Letter) (m : Meaning W) (ns : List Node) (old new : List ℕ) (r : Result ℕ NetlistFault) → Planned k m → ns ≡ m.plan → NodesDrawn ns old new r → PlanDrawn k m old new r
+pub drawn_own : {W : Type 0} (k : Letter) (m : Meaning W) (ns : List Node) (old new : List ℕ) (r : Result ℕ RoomFault) → Planned k m → ns ≡ m.plan → NodesDrawn ns old new r → PlanDrawn k m old new r
 drawn_own k m ns old new r planned e (kept, top, seals, written, counted) =
     let own = sealed_own k m kept top planned (subst (λ (xs : List Node). Seals xs kept top) e seals) in
     (top, own.1, subst (λ (xs : List Node). NetlistWritten xs top old new r) own.0 written, drawn_macros k m top new r own.1 counted)

@@ -10,7 +10,7 @@ use Rattle.stock.specs.declared.stock.Stock.{Stock}
 use Rattle.stock.specs.Texts.{StockRead}
 use Rattle.planner.specs.declared.listing.Planned.{Planned}
 use Rattle.planner.specs.Listings.{Listed}
-use Rattle.wiring.specs.declared.faults.NetlistFault.{NetlistFault}
+use Rattle.page.specs.declared.faults.RoomFault.{RoomFault}
 use Rattle.wiring.specs.Counting.{MacrosCounted, macro_lines}
 use Rattle.wiring.specs.Netlists.{NetlistWritten}
 use Rattle.pile.specs.declared.faults.PlanningFault.{PlanningFault}
@@ -30,12 +30,12 @@ PlanListed k m text old new (Err (planning.Stock f)) = StockRead text (Err f) ×
 PlanListed k m text old new (Err (planning.Listing f)) = (s : Stock) × (top : Option Top) × StockRead text (Ok s) × TopOf k m top × Listed m.plan top s old new (Err f)
 
 -- a written netlist has as many macro lines as the memory has macros, counted on the text
-abbrev pub MacrosDrawn : {W : Type 0} → Meaning W → List ℕ → Result ℕ NetlistFault → Type 0
+abbrev pub MacrosDrawn : {W : Type 0} → Meaning W → List ℕ → Result ℕ RoomFault → Type 0
 MacrosDrawn m new (Ok n) = macro_lines (take n new) ≡ macro_count m.plan
 MacrosDrawn m new (Err f) = Unit {0}
 
 -- the netlist of a memory's plan
-abbrev pub PlanDrawn : {W : Type 0} → Letter → Meaning W → List ℕ → List ℕ → Result ℕ NetlistFault → Type 0
+abbrev pub PlanDrawn : {W : Type 0} → Letter → Meaning W → List ℕ → List ℕ → Result ℕ RoomFault → Type 0
 PlanDrawn k m old new r = (top : Option Top) × TopOf k m top × NetlistWritten m.plan top old new r × MacrosDrawn m new r
 
 -- nodes that are sealed and then planned against a stock text
@@ -45,5 +45,5 @@ NodesListed ns text old new (Err (planning.Stock f)) = StockRead text (Err f) ×
 NodesListed ns text old new (Err (planning.Listing f)) = (s : Stock) × (kept : List Node) × (top : Option Top) × StockRead text (Ok s) × Seals ns kept top × Listed kept top s old new (Err f)
 
 -- nodes that are sealed and whose netlist is then written
-abbrev pub NodesDrawn : List Node → List ℕ → List ℕ → Result ℕ NetlistFault → Type 0
+abbrev pub NodesDrawn : List Node → List ℕ → List ℕ → Result ℕ RoomFault → Type 0
 NodesDrawn ns old new r = (kept : List Node) × (top : Option Top) × Seals ns kept top × NetlistWritten kept top old new r × MacrosCounted top new r

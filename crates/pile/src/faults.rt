@@ -6,6 +6,7 @@ use stock::StockFault;
 use text::{Fault, Report};
 
 /// Why a memory's plan gets no listing.
+// Not `Either` of the two faults, whose cases would not say which is which.
 #[derive(Clone, Copy)]
 pub enum PlanningFault {
     /// The stock text is not read.

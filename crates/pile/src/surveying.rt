@@ -33,9 +33,9 @@ fn copy_plan<M: Memory>(memory: &M, nodes: &mut [Node; MAX_NODES]) -> usize
     ensures plan { M.Memory.ordered memory.now → take result nodes.new ≡ (M.Memory.meaning memory.now).plan }
 {
     let count = memory.nodes().min(MAX_NODES);
-    for i in 0..count {
+    for (i, slot) in nodes[..count].iter_mut().enumerate() {
         if let Some(node) = memory.node(i) {
-            nodes[i] = node;
+            *slot = node;
         }
     }
     count
@@ -45,14 +45,8 @@ fn copy_plan<M: Memory>(memory: &M, nodes: &mut [Node; MAX_NODES]) -> usize
 fn plan_nodes(nodes: &[Node], stock: &[u8], out: &mut [u8]) -> Result<Planned, PlanningFault>
     ensures { NodesListed nodes.now stock.now out.old out.new result }
 {
-    let stock = match stock::read(stock) {
-        Ok(stock) => stock,
-        Err(fault) => return Err(PlanningFault::Stock(fault)),
-    };
-    match plan(Draft::new(nodes).seal(), &stock, out) {
-        Ok(planned) => Ok(planned),
-        Err(fault) => Err(PlanningFault::Listing(fault)),
-    }
+    let stock = stock::read(stock).map_err(PlanningFault::Stock)?;
+    plan(Draft::new(nodes).seal(), &stock, out).map_err(PlanningFault::Listing)
 }
 
 // Seals nodes, and writes their netlist.
@@ -75,15 +69,32 @@ pub fn survey<M: Memory, N: Memory<Word = M::Word>>(
     listing: &mut [u8],
     drawing: &mut [u8],
 ) -> Findings
-    ensures runs { BothRan M.Word.Word.nought M.Memory.ordered M.Memory.meaning N.Memory.ordered N.Memory.meaning (record { before = first.old; after = first.new; calls = calls.now; old = answers.old; new = answers.new; tried = result.tried }) (record { before = second.old; after = second.new; calls = others.now; old = again.old; new = again.new; tried = result.again }) }
+    ensures runs { BothRan M.Word.Word.nought M.Memory.ordered M.Memory.meaning
+        N.Memory.ordered N.Memory.meaning
+        (record {
+          before = first.old;
+          after = first.new;
+          calls = calls.now;
+          old = answers.old;
+          new = answers.new;
+          tried = result.tried;
+        })
+        (record {
+          before = second.old;
+          after = second.new;
+          calls = others.now;
+          old = again.old;
+          new = again.new;
+          tried = result.again;
+        }) }
     ensures listing { PlanListed M.Word.Word.kind (M.Memory.meaning first.new) stock.now listing.old listing.new result.planned }
     ensures netlist { PlanDrawn M.Word.Word.kind (M.Memory.meaning first.new) drawing.old drawing.new result.drawn }
 {
     let (tried, tried_again) = run_both(first, second, calls, others, answers, again);
     let mut nodes = [Node::Layer(Layer::Lvt); MAX_NODES];
     let count = copy_plan(first, &mut nodes);
-    let planned = plan_nodes(&nodes[0..count], stock, listing);
-    let drawn = draw_nodes(&nodes[0..count], drawing);
+    let planned = plan_nodes(&nodes[..count], stock, listing);
+    let drawn = draw_nodes(&nodes[..count], drawing);
     Findings {
         tried,
         again: tried_again,

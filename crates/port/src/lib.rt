@@ -6,6 +6,7 @@ ghost use Rattle.std.specs.Prelude.{◌≡◌};
 ghost use Rattle.port.specs.Ports.{stepped, held};
 
 /// A write port whose word waits in a latch.
+// Two states and no `Option`, by a rule of the project: a port is a state machine, moved by one `match`.
 #[derive(Clone, Copy)]
 pub enum WritePort {
     /// It has served no write since the last edge.

@@ -14,5 +14,5 @@ pub wiped_cleared : (s mid s' : RegFile) → Wiped s mid → Freed mid s' → Cl
 wiped_cleared s mid s' wiped freed = record {
   words = λ x h. ap (λ (ws : List Bits64). get_or ws x bits64_zero) (freed.words ∙ wiped.words) ∙ same_everywhere max_words x bits64_zero;
   used = λ q h. reads_free mid s' freed q;
-  ports = λ q h. writes_free mid s' freed q h;
+  ports = λ q h. writes_free mid s' freed q;
 }

@@ -1,13 +1,11 @@
 -- What holds after every port was made free.
-use Rattle.std.proofs.Common.{◌≡◌, ℕ, zero, suc, ◌<◌, Bool, false, cond, ltb, List, get_or, replicate, refl, ap, ◌∙◌, arith}
-use Rattle.std.proofs.lemmas.Bool.Decides.{nat_tests}
-use Rattle.kinds.specs.Bits.{bits64_zero}
+use Rattle.std.proofs.Common.{◌≡◌, ℕ, zero, suc, Bool, false, cond, ltb, List, get_or, replicate, refl, ap, ◌∙◌}
 use Rattle.memory.specs.Meaning.{SameShape, free}
 use Rattle.port.specs.declared.WritePort.{WritePort}
-use Rattle.port.specs.declared.WritePort.TheVariants.{Free}
 use Rattle.port.specs.Ports.{latched}
 use Rattle.regfile.specs.declared.regfile.RegFile.{RegFile}
 use Rattle.regfile.specs.Limits.{read_ports, write_ports}
+use Rattle.regfile.specs.Slots.{latch_at}
 use Rattle.regfile.specs.RegFiles.{meant, plan_of}
 use Rattle.regfile.specs.Steps.{Freed}
 
@@ -30,10 +28,5 @@ module _ (s s' : RegFile) (freed : Freed s s') where
   pub reads_free : (q : ℕ) → get_or s'.used q false ≡ false
   reads_free q = ap (λ (us : List Bool). get_or us q false) freed.used ∙ same_everywhere read_ports q false
 
-  port_free : (q : ℕ) → q < write_ports → get_or s'.ports q Free ≡ Free
-  port_free zero h = freed.first
-  port_free (suc zero) h = freed.second
-  port_free (suc (suc q)) h = absurd (omega arith)
-
-  pub writes_free : (q : ℕ) → q < (meant s').writes → (meant s').port q ≡ free
-  writes_free q h = ap (λ (p : WritePort). latched p (get_or s'.latches q bits64_zero)) (port_free q (grind (arith, nat_tests)))
+  pub writes_free : (q : ℕ) → (meant s').port q ≡ free
+  writes_free q = ap (λ (p : WritePort). latched p (latch_at s'.slots q)) (freed.ports q)

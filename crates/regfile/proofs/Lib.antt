@@ -1,4 +1,5 @@
 mod Stores
+mod Helds
 mod Frees
 mod Clears
 mod Edges

@@ -1,4 +1,5 @@
 pub mod Limits
+pub mod Slots
 pub mod RegFiles
 pub mod Steps
 pub mod Ports

@@ -7,10 +7,10 @@ use Rattle.node.specs.declared.node.Macro.{Macro}
 use Rattle.node.specs.declared.node.Node.{Node}
 use Rattle.node.specs.declared.node.Node.TheVariants.{Macro as macro_node}
 use Rattle.memory.specs.Meaning.{Meaning}
-use Rattle.port.specs.declared.WritePort.{WritePort}
-use Rattle.port.specs.declared.WritePort.TheVariants.{Free}
 use Rattle.port.specs.Ports.{latched}
 use Rattle.regfile.specs.Limits.{read_ports, write_ports}
+use Rattle.regfile.specs.Slots.{port_at, latch_at}
+use Rattle.regfile.specs.declared.slot.Slot.{Slot}
 use Rattle.regfile.specs.declared.regfile.RegFile.{RegFile}
 
 -- the macro of a register file of this depth: kind 2, letter B, four read and two write ports
@@ -21,22 +21,22 @@ own_macro d = record { kind = 2; letter = letter_b; reads = read_ports; writes =
 abbrev pub plan_of : ℕ → List Node
 plan_of d = cond (nat_lt 0 d) (macro_node (own_macro d) ∷ []) []
 
--- what a register file is by its depth, its words, its marks of used read ports, its write ports and their
+-- what a register file is by its depth, its words, its marks of used read ports, and its write ports with their
 -- latches; the content of a latch is open while its port is free
-abbrev pub filed : ℕ → List Bits64 → List Bool → List WritePort → List Bits64 → Meaning Bits64
-filed d words used ports latches = record {
+abbrev pub filed : ℕ → List Bits64 → List Bool → List Slot → Meaning Bits64
+filed d words used slots = record {
   reads = cond (nat_lt 0 d) read_ports 0;
   writes = cond (nat_lt 0 d) write_ports 0;
   depth = d;
   word = λ x. slice_index_or words x bits64_zero;
   used = λ q. slice_index_or used q false;
-  port = λ q. latched (slice_index_or ports q Free) (slice_index_or latches q bits64_zero);
+  port = λ q. latched (port_at slots q) (latch_at slots q);
   plan = plan_of d;
 }
 
 -- what a register file means
 abbrev pub meant : RegFile → Meaning Bits64
-meant s = filed s.depth s.words s.used s.ports s.latches
+meant s = filed s.depth s.words s.used s.slots
 
 -- every register file is in order, by its ghost fields
 abbrev pub Always : RegFile → Type 0

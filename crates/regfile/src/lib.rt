@@ -4,5 +4,6 @@
 
 mod regfile;
 mod regfile_memory;
+mod slot;
 
 pub use regfile::{MAX_WORDS, RegFile};

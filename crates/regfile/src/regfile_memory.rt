@@ -1,10 +1,8 @@
 // A register file as a memory. What a latch holds is open while its port is free.
-ghost use Rattle.std.specs.Prelude.{◌≡◌, ℕ, ◌<◌, length};
+ghost use Rattle.std.specs.Prelude.{◌≡◌};
 ghost use Rattle.kinds.specs.Bits.{bits64_zero};
 ghost use Rattle.memory.specs.Meaning.{Cleared, SameShape};
 ghost use Rattle.memory.specs.Calls.{Read, Write, Edged};
-ghost use Rattle.port.specs.declared.WritePort.TheVariants.{Holding};
-ghost use Rattle.port.specs.Ports.{landed};
 ghost use Rattle.regfile.specs.Limits.{depth_for};
 ghost use Rattle.regfile.specs.RegFiles.{Always, meant};
 ghost use Rattle.regfile.specs.Steps.{Freed, Landed, Wiped};
@@ -12,21 +10,11 @@ ghost use Rattle.regfile.specs.Ports.{file_tidy};
 ghost use Rattle.regfile.specs.Plans.{file_planned};
 
 use crate::regfile::{MAX_WORDS, READS, RegFile, WRITES};
+use crate::slot::{Slot, land_all};
 use kinds::Bits64;
 use memory::{Memory, Refusal};
 use node::{Macro, Node};
-use port::{Event, WritePort};
 use word::{Letter, Word};
-
-// Puts the word at the address that the port holds.
-fn put(port: WritePort, word: Bits64, words: &mut [Bits64])
-    requires { (x : ℕ) → port ≡ Holding x → x < length words.old }
-    ensures { words.new ≡ landed port word words.old }
-{
-    if let WritePort::Holding(address) = port {
-        words[address] = word;
-    }
-}
 
 impl RegFile {
     /// A configured register file of this depth, or of 64 where this one is more; void where it is 0.
@@ -38,8 +26,7 @@ impl RegFile {
             depth: depth.min(MAX_WORDS),
             words: [Bits64::zero(); MAX_WORDS],
             used: [false; READS],
-            ports: [WritePort::Free; WRITES],
-            latches: [Bits64::zero(); WRITES],
+            slots: [Slot::vacant(); WRITES],
         };
         file.configure();
         file
@@ -56,16 +43,16 @@ impl RegFile {
     fn land(&mut self)
         ensures { Landed self.old self.new }
     {
-        put(self.ports[0], self.latches[0], &mut self.words);
-        put(self.ports[1], self.latches[1], &mut self.words);
+        land_all(&self.slots, &mut self.words);
     }
 
     // Makes every port free.
     fn free(&mut self)
         ensures { Freed self.old self.new }
     {
-        self.ports[0].step(Event::Edge);
-        self.ports[1].step(Event::Edge);
+        for slot in &mut self.slots {
+            slot.free();
+        }
         self.used = [false; READS];
     }
 }
@@ -77,9 +64,9 @@ impl Memory for RegFile {
 
     ghost meaning = { meant };
 
-    ghost tidy = { λ s o. file_tidy s.depth s.words s.used s.ports s.latches s.first s.second s.apart };
+    ghost tidy = { λ s o. file_tidy s.depth s.words s.used s.slots s.within s.apart };
 
-    ghost planned = { λ s o. file_planned s.depth s.words s.used s.ports s.latches s.deep };
+    ghost planned = { λ s o. file_planned s.depth s.words s.used s.slots s.deep };
 
     fn configure(&mut self)
         ensures order { Always self.new }
@@ -103,21 +90,19 @@ impl Memory for RegFile {
     }
 
     fn nodes(&self) -> usize {
-        if self.depth > 0 { 1 } else { 0 }
+        usize::from(self.depth > 0)
     }
 
     fn node(&self, i: usize) -> Option<Node> {
-        if self.depth > 0 && i == 0 {
-            Some(Node::Macro(Macro {
+        (i < self.nodes()).then(|| {
+            Node::Macro(Macro {
                 kind: 2,
                 letter: Letter::B,
                 reads: READS as u8,
                 writes: WRITES as u8,
                 depth: self.depth as u32,
-            }))
-        } else {
-            None
-        }
+            })
+        })
     }
 
     fn is_used(&self, port: usize) -> bool {
@@ -125,11 +110,7 @@ impl Memory for RegFile {
     }
 
     fn held(&self, port: usize) -> Option<usize> {
-        if port < self.writes() {
-            self.ports[port].address()
-        } else {
-            None
-        }
+        self.slots.get(port)?.port.address()
     }
 
     fn read(&mut self, port: usize, address: usize) -> Result<Bits64, Refusal>
@@ -146,8 +127,7 @@ impl Memory for RegFile {
         ensures does { Write (meant self.old) port address word result (meant self.new) }
     {
         self.may_write(port, address)?;
-        self.latches[port] = word;
-        self.ports[port].step(Event::Store(address));
+        self.slots[port] = self.slots[port].store(address, word);
         Ok(())
     }
 

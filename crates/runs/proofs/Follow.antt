@@ -12,7 +12,7 @@ use Rattle.runs.specs.declared.call.Call.TheVariants.{Read as read, Write as wri
 use Rattle.runs.specs.Tries.{Tried}
 use Rattle.runs.specs.Runs.{Entry, ◌⇒◌, Run, ◌▹◌, Inside, Sizes, sizes, Since, Holding, At, Stands}
 use Rattle.runs.proofs.Laws.{accepted_stands}
-use Rattle.runs.proofs.State.{busy, State, begun, took, filled, clocked, step, after, Kind, reading, writing, clocking, idle, kind, answer, Fits}
+use Rattle.runs.proofs.State.{busy, State, took, filled, clocked, step, after, Kind, reading, writing, clocking, idle, kind, answer, Fits}
 use Rattle.runs.proofs.Bridge.{free_holding, used_since, since_used, port_since, word_at}
 use Rattle.runs.proofs.Places.{ready}
 
@@ -28,15 +28,6 @@ pub record Sound {W : Type 0} (n : ℕ) (s : State W) : Type 0 where
   pub within : (q a : ℕ) (w : W) → s.port q ≡ holding a w → s.held a ≡ true
   pub held : (a : ℕ) → s.held a ≡ true → (q : ℕ) × (w : W) × (q < n) × (s.port q ≡ holding a w)
   pub stays : (a : ℕ) → s.held a ≡ false → s.coming a ≡ s.word a
-
-pub sound_begun : {W : Type 0} (n : ℕ) (z : W) → Sound n (begun z)
-sound_begun n z =
-    record {
-      lands = λ q a w e. absurd (free_holding e);
-      within = λ q a w e. absurd (free_holding e);
-      held = λ a e. absurd (false≢true e);
-      stays = λ a e. refl;
-    }
 
 sound_clocked : {W : Type 0} (n : ℕ) (s : State W) → Sound n (clocked s)
 sound_clocked n s =

@@ -1,7 +1,7 @@
 -- A run as it goes on, call by call: what a loop that tries calls on a memory keeps, and what it gives in the end.
 use Rattle.std.proofs.Common.{◌≡◌, ℕ, ◌+◌, ◌<◌, Bool, true, false, List, [], ◌∷◌, ◌++◌, length, get_or, take, sym, refl, ap, ◌∙◌, subst, arith, length-append}
 use Rattle.std.proofs.lemmas.List.{take_more}
-use Rattle.memory.specs.Meaning.{Port, free, holding, Meaning, SameShape, Cleared}
+use Rattle.memory.specs.Meaning.{Port, free, holding, Meaning, SameShape}
 use Rattle.runs.specs.declared.call.Answer.{Answer}
 use Rattle.runs.specs.declared.call.Call.{Call}
 use Rattle.runs.specs.Tries.{Tried}
@@ -11,7 +11,7 @@ use Rattle.runs.proofs.Laws.{obeys, lawful}
 use Rattle.runs.proofs.State.{after, Fits}
 use Rattle.runs.proofs.Bridge.{fits_lawful, lawful_fits, at_word, used_since, since_used, port_since}
 use Rattle.runs.proofs.Places.{rearranged, one_answer}
-use Rattle.runs.proofs.Follow.{since_port, Shows, Sound, sound_begun, follows, stands}
+use Rattle.runs.proofs.Follow.{since_port, Shows, Sound, follows, stands}
 
 -- these calls were tried since configure and got these answers, and the memory is in the state that is computed of them
 pub record Running {W : Type 0} (z : W) (calls : List (Call W)) (answers : List (Answer W)) (m : Meaning W) : Type 0 where
@@ -19,16 +19,6 @@ pub record Running {W : Type 0} (z : W) (calls : List (Call W)) (answers : List 
   pub fits : Fits (sizes m) z (run_of calls answers)
   pub sees : Shows m (after z (run_of calls answers))
   pub sound : Sound m.writes (after z (run_of calls answers))
-
--- after configure no call was tried
-pub running_start : {W : Type 0} (z : W) (m : Meaning W) → Cleared z m → Running z [] [] m
-running_start z m h =
-    record {
-      each = refl;
-      fits = tt;
-      sees = record { words = h.words; used = h.used; ports = h.ports };
-      sound = sound_begun m.writes z;
-    }
 
 -- the last call of a run
 run_last : {W : Type 0} (t : Run W) (cs : List (Call W)) (rs : List (Answer W)) (c : Call W) (r : Answer W) → length rs ≡ length cs → run_on t (cs ++ c ∷ []) (rs ++ r ∷ []) ≡ run_on t cs rs ▹ (c ⇒ r)
@@ -75,10 +65,7 @@ ran z calls answers m h =
       stands = stands z (sizes m) (run_of calls answers) m h.fits h.sees;
     }
 
--- a shape is kept where nothing is done, and by one thing after the other
-pub shape_same : {W : Type 0} (m : Meaning W) → SameShape m m
-shape_same m = record { reads = refl; writes = refl; depth = refl; plan = refl }
-
+-- a shape is kept by one thing after another
 pub shape_then : {W : Type 0} {m n o : Meaning W} → SameShape m n → SameShape n o → SameShape m o
 shape_then h k =
     record { reads = k.reads ∙ h.reads; writes = k.writes ∙ h.writes; depth = k.depth ∙ h.depth; plan = k.plan ∙ h.plan }

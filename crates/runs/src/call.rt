@@ -38,6 +38,7 @@ pub enum Answer<W> {
 pub fn attempt<M: Memory>(m: &mut M, call: &Call<M::Word>) -> Answer<M::Word>
     ensures { M.Memory.ordered m.old → M.Memory.ordered m.new × Tried (M.Memory.meaning m.old) call.now result (M.Memory.meaning m.new) }
 {
+    // Each by `match`: tried as `map_or_else(Answer::Refused, Answer::Word)`, which no proof covers yet.
     match call {
         Call::Read { port, address } => match m.read(*port, *address) {
             Ok(word) => Answer::Word(word),

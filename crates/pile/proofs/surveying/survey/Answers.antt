@@ -1,4 +1,3 @@
-use Rattle.std.proofs.Common.{◌≡◌, ℕ, ◌-◌, take, ap, ◌∙◌, arith}
 use Rattle.pile.proofs.Tops.{listed_own, drawn_own}
 use Rattle.pile.proofs.surveying.survey.Goals as goal
 
@@ -8,10 +7,7 @@ returns g c =
     let memory = c.run_both-tried.new.first in
     let m = g.M.Memory.meaning memory in
     let planned = g.met.M.Memory.planned memory order in
-    let count = c.copy_plan-count.result in
-    let nodes = c.copy_plan-count.new.nodes in
-    let front : count - 0 ≡ count = omega arith in
-    let own = ap (λ (k : ℕ). take k nodes) front ∙ c.copy_plan-count.ensures.plan order in
+    let own = c.copy_plan-count.ensures.plan order in
     record {
       runs = c.run_both-tried.ensures;
       listing = listed_own g.M.Word.Word.kind m _ c.args.stock.now c.args.listing.now c.plan_nodes-planned.new.out c.plan_nodes-planned.result planned own c.plan_nodes-planned.ensures;

@@ -8,5 +8,5 @@ abbrev pub invariant-loop-i : goal.invariant-loop-i
 invariant-loop-i g l =
     g.M.Memory.ordered l.m
     × SameShape (g.M.Memory.meaning l.initial.m) (g.M.Memory.meaning l.m)
-    × Running g.M.Word.Word.nought (take l.i l.calls) (take l.i l.answers) (g.M.Memory.meaning l.m)
+    × Running g.M.Word.Word.nought (take l.i l.call-items) (take l.i l.answers) (g.M.Memory.meaning l.m)
     × (drop l.i l.answers ≡ drop l.i l.initial.answers)
