@@ -1,2 +1,3 @@
 pub mod Depth
 pub mod Tidy
+pub mod Edges

@@ -1,3 +1,5 @@
 pub mod Fits
 pub mod Piles
 pub mod Beside
+pub mod Places
+pub mod Halves

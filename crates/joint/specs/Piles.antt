@@ -1,5 +1,5 @@
 -- A layer over two halves: its numbers, its plan, and what making it gives.
-use Rattle.std.specs.Prelude.{◌≡◌, ℕ, ◌+◌, ◌<◌, Bool, cond, List, [], ◌∷◌, ◌++◌, length, nat_lt}
+use Rattle.std.specs.Prelude.{◌≡◌, ℕ, ◌+◌, ◌<◌, Bool, List, [], ◌∷◌, ◌++◌, length, nat_lt, if◌then◌else◌, Some, None, Option}
 use Rattle.word.specs.declared.Letter.{Letter}
 use Rattle.node.specs.declared.node.Layer.{Layer}
 use Rattle.node.specs.declared.node.Node.{Node}
@@ -32,13 +32,18 @@ pub record Measured {W : Type 0} (l : Layer) (k : Letter) (a b : Meaning W) (j :
   pub live : 0 < j.own.depth → Agreed l k j a b
   pub void : j.own.depth ≡ 0 → Matches l k a b → ⊥
 
+-- numbers taken from two halves; none exactly where they do not fit
+abbrev pub MeasuredIf : {W : Type 0} → Layer → Letter → Meaning W → Meaning W → Option Joint → Type 0
+MeasuredIf l k a b (Some j) = (0 < j.own.depth) × Agreed l k j a b
+MeasuredIf l k a b None = Matches l k a b → ⊥
+
 -- the nodes of two halves and of the layer over them
 abbrev pub pile : Layer → List Node → List Node → List Node
 pile l p q = p ++ (q ++ (layer_node l ∷ []))
 
 -- a layer's plan; a void layer has none
 abbrev pub piled : Layer → Joint → List Node → List Node → List Node
-piled l j p q = cond (nat_lt 0 j.own.depth) (pile l p q) []
+piled l j p q = if nat_lt 0 j.own.depth then pile l p q else []
 
 -- a layer with these words and ports over two halves
 abbrev pub layer : {V W : Type 0} → Layer → Joint → Meaning V → Meaning V → (ℕ → W) → (ℕ → Bool) → (ℕ → Port W) → Meaning W

@@ -1,8 +1,8 @@
 // How two halves are joined.
 ghost use Rattle.std.specs.Prelude.{◌≡◌, ◌<◌};
-ghost use Rattle.std.specs.List.{slice_get};
 ghost use Rattle.joint.specs.Fits.{Counts, FitTold, HalfOf, Joined, Live};
-ghost use Rattle.joint.specs.Piles.{Agreed, Measured, piled};
+ghost use Rattle.std.specs.List.{slice_get};
+ghost use Rattle.joint.specs.Piles.{Agreed, Measured, MeasuredIf, piled};
 
 use crate::sizes::{Joint, Size};
 use crate::verdict::Fit;
@@ -17,48 +17,36 @@ struct Half {
     nodes: usize,
 }
 
-impl Joint {
-    /// The numbers of a void layer.
-    pub fn void() -> Joint
-        ensures { result.own.depth ≡ 0 }
-    {
-        let none = Size {
-            reads: 0,
-            writes: 0,
-            depth: 0,
-            nodes: 0,
-        };
-        Joint {
-            first: none,
-            second: none,
-            own: none,
-        }
-    }
+// A half's numbers, with none of them narrow.
+impl From<Half> for Size {
+    ghost from_gives = { Counts };
 
-    // The numbers of two halves, and those that a layer makes of them.
-    fn of(first: Half, second: Half, own: Half) -> Joint
-        requires { 0 < own.shape.depth }
-        ensures { Counts first result.first × Counts second result.second × Counts own result.own }
-    {
-        Joint {
-            first: first.size(),
-            second: second.size(),
-            own: own.size(),
+    fn from(half: Half) -> Size {
+        Size {
+            reads: half.shape.reads as usize,
+            writes: half.shape.writes as usize,
+            depth: half.shape.depth as usize,
+            nodes: half.nodes,
         }
     }
 }
 
 impl Half {
-    // The same as sizes.
-    fn size(self) -> Size
-        ensures { Counts self result }
+    // The half that a layer makes of two; none where they do not fit.
+    fn over(layer: Layer, first: Half, second: Half) -> Option<Half>
+        requires { 0 < first.shape.depth }
+        ensures live { Live result }
+        ensures says { Joined layer first second result }
     {
-        Size {
-            reads: self.shape.reads as usize,
-            writes: self.shape.writes as usize,
-            depth: self.shape.depth as usize,
-            nodes: self.nodes,
+        let nodes = first.nodes.saturating_add(second.nodes);
+        if nodes >= MAX_NODES {
+            return None;
         }
+        let shape = layer.over(first.shape, second.shape)?;
+        Some(Half {
+            shape,
+            nodes: nodes + 1,
+        })
     }
 }
 
@@ -66,7 +54,8 @@ impl Half {
 // in order, and is taken as the largest that it holds.
 fn measured<M: Memory>(memory: &M) -> Option<Half>
     ensures live { Live result }
-    ensures says { M.Memory.ordered memory.now → HalfOf M.Word.Word.kind (M.Memory.meaning memory.now) result }
+    ensures says { M.Memory.ordered memory.now →
+        HalfOf M.Word.Word.kind (M.Memory.meaning memory.now) result }
 {
     let depth = memory.depth();
     if depth == 0 {
@@ -75,40 +64,36 @@ fn measured<M: Memory>(memory: &M) -> Option<Half>
     Some(Half {
         shape: Shape {
             letter: M::Word::letter(),
-            reads: memory.reads().min(u8::MAX as usize) as u8,
-            writes: memory.writes().min(u8::MAX as usize) as u8,
-            depth: depth.min(u32::MAX as usize) as u32,
+            reads: u8::try_from(memory.reads()).unwrap_or(u8::MAX),
+            writes: u8::try_from(memory.writes()).unwrap_or(u8::MAX),
+            depth: u32::try_from(depth).unwrap_or(u32::MAX),
         },
         nodes: memory.nodes(),
     })
 }
 
-// The half that a layer makes of two; none where they do not fit.
-fn over(layer: Layer, first: Half, second: Half) -> Option<Half>
-    requires { 0 < first.shape.depth }
-    ensures live { Live result }
-    ensures says { Joined layer first second result }
+// The numbers of a layer over two memories; none where they do not fit.
+fn joined<A: Memory, B: Memory<Word = A::Word>>(layer: Layer, a: &A, b: &B) -> Option<Joint>
+    ensures { A.Memory.ordered a.now → B.Memory.ordered b.now → MeasuredIf layer A.Word.Word.kind
+        (A.Memory.meaning a.now) (B.Memory.meaning b.now) result }
 {
-    let nodes = first.nodes.saturating_add(second.nodes);
-    if nodes >= MAX_NODES {
-        return None;
-    }
-    let shape = layer.over(first.shape, second.shape)?;
-    Some(Half {
-        shape,
-        nodes: nodes + 1,
+    let first = measured(a)?;
+    let second = measured(b)?;
+    let own = Half::over(layer, first, second)?;
+    Some(Joint {
+        first: first.into(),
+        second: second.into(),
+        own: own.into(),
     })
 }
 
 /// Whether two memories fit under a layer: neither is void, their plans and the layer's node are at most 64
 /// nodes, and their shapes are such as the check lets the layer stand over.
 pub fn fit<A: Memory, B: Memory<Word = A::Word>>(layer: Layer, a: &A, b: &B) -> Fit
-    ensures { A.Memory.ordered a.now → B.Memory.ordered b.now → FitTold layer A.Word.Word.kind (A.Memory.meaning a.now) (B.Memory.meaning b.now) result }
+    ensures { A.Memory.ordered a.now → B.Memory.ordered b.now → FitTold layer A.Word.Word.kind
+        (A.Memory.meaning a.now) (B.Memory.meaning b.now) result }
 {
-    let (Some(first), Some(second)) = (measured(a), measured(b)) else {
-        return Fit::Unfit;
-    };
-    match over(layer, first, second) {
+    match joined(layer, a, b) {
         Some(_) => Fit::Fits,
         None => Fit::Unfit,
     }
@@ -116,15 +101,10 @@ pub fn fit<A: Memory, B: Memory<Word = A::Word>>(layer: Layer, a: &A, b: &B) -> 
 
 /// The numbers of a layer over two memories; a void layer's where they do not fit.
 pub fn join<A: Memory, B: Memory<Word = A::Word>>(layer: Layer, a: &A, b: &B) -> Joint
-    ensures { A.Memory.ordered a.now → B.Memory.ordered b.now → Measured layer A.Word.Word.kind (A.Memory.meaning a.now) (B.Memory.meaning b.now) result }
+    ensures { A.Memory.ordered a.now → B.Memory.ordered b.now → Measured layer A.Word.Word.kind
+        (A.Memory.meaning a.now) (B.Memory.meaning b.now) result }
 {
-    let (Some(first), Some(second)) = (measured(a), measured(b)) else {
-        return Joint::void();
-    };
-    match over(layer, first, second) {
-        Some(own) => Joint::of(first, second, own),
-        None => Joint::void(),
-    }
+    joined(layer, a, b).unwrap_or(Joint::void())
 }
 
 /// Node `i` of the plan of a layer over two memories: A's nodes, B's, the layer's own.
@@ -135,7 +115,10 @@ pub fn node<A: Memory, B: Memory<Word = A::Word>>(
     b: &B,
     i: usize,
 ) -> Option<Node>
-    ensures { (0 < joint.now.own.depth → A.Memory.ordered a.now × B.Memory.ordered b.now × Agreed layer A.Word.Word.kind joint.now (A.Memory.meaning a.now) (B.Memory.meaning b.now)) → result ≡ slice_get (piled layer joint.now (A.Memory.meaning a.now).plan (B.Memory.meaning b.now).plan) i }
+    ensures { (0 < joint.now.own.depth → A.Memory.ordered a.now × B.Memory.ordered b.now
+        × Agreed layer A.Word.Word.kind joint.now (A.Memory.meaning a.now) (B.Memory.meaning b.now))
+        → result ≡ slice_get
+        (piled layer joint.now (A.Memory.meaning a.now).plan (B.Memory.meaning b.now).plan) i }
 {
     if i >= joint.own.nodes {
         None

@@ -18,3 +18,22 @@ pub struct Joint {
     pub own: Size,
     ghost void: { own.depth ≡ 0 → (own.reads ≡ 0) × (own.writes ≡ 0) × (own.nodes ≡ 0) },
 }
+
+impl Joint {
+    /// The numbers of a void layer.
+    pub fn void() -> Joint
+        ensures { result.own.depth ≡ 0 }
+    {
+        let none = Size {
+            reads: 0,
+            writes: 0,
+            depth: 0,
+            nodes: 0,
+        };
+        Joint {
+            first: none,
+            second: none,
+            own: none,
+        }
+    }
+}

@@ -3,10 +3,11 @@ ghost use Rattle.std.specs.Prelude.{◌≡◌};
 ghost use Rattle.joint.specs.Fits.{fit_number};
 
 /// Whether two halves fit under a layer.
+// Not a `Result`, by a rule of the project: this answer is an enum, whose cases have their numbers.
 #[derive(Clone, Copy)]
 pub enum Fit {
-    Fits,
-    Unfit,
+    Fits = 0,
+    Unfit = 10,
 }
 
 impl Fit {
@@ -14,9 +15,6 @@ impl Fit {
     pub fn number(self) -> u8
         ensures { result ≡ fit_number self }
     {
-        match self {
-            Fit::Fits => 0,
-            Fit::Unfit => 10,
-        }
+        self as u8
     }
 }

@@ -3,155 +3,82 @@
 // Every write goes to both halves, so that each read port has a copy of its own to read.
 #![tactic(auto)]
 
-ghost use Rattle.std.specs.Prelude.{◌≡◌, refl};
-ghost use Rattle.memory.specs.Meaning.{Cleared, SameShape};
-ghost use Rattle.memory.specs.Calls.{Read, Write, Edged};
+ghost use Rattle.std.specs.Prelude.{refl};
 ghost use Rattle.node.specs.declared.node.Layer.TheVariants.{Replicate as own};
-ghost use Rattle.joint.specs.Piles.{Configured, Made};
-ghost use Rattle.replicate.specs.Replicate.{InOrder, Unmoved, meant};
-ghost use Rattle.replicate.specs.Tidy.{tidy_layer};
-ghost use Rattle.joint.proofs.Piles.{planned_layer};
+ghost use Rattle.replicate.specs.Replicate.{Paired, replicated};
+ghost use Rattle.replicate.specs.Tidy.{edged_layer, tidy_layer};
 
-use joint::{Joint, join};
+use joint::{Halves, Place};
+use layered::{Layered, Rule};
 use memory::{Memory, Refusal};
-use node::{Layer, Node};
-use word::Word;
+use node::Layer;
 
 /// Two memories of the same words, with the read ports of both.
+pub type Replicate<A, B> = Layered<ReplicateRule, A, B>;
+
+/// The rule of the layer: each write goes to both halves.
 #[derive(Drop)]
-pub struct Replicate<A, B> {
-    a: A,
-    b: B,
-    joint: Joint,
-}
+pub struct ReplicateRule;
 
-impl<A: Memory, B: Memory<Word = A::Word>> Replicate<A, B> {
-    /// A configured layer over two halves; void where they do not fit.
-    pub fn new(a: A, b: B) -> Self
-        ensures order { InOrder A.Word.Word.kind A.Memory.ordered B.Memory.ordered A.Memory.meaning B.Memory.meaning result }
-        ensures clear { Cleared A.Word.Word.nought (meant A.Memory.meaning B.Memory.meaning result) }
-        ensures made { A.Memory.ordered a → B.Memory.ordered b → Made own A.Word.Word.kind (A.Memory.meaning a) (B.Memory.meaning b) (meant A.Memory.meaning B.Memory.meaning result) }
-        ensures halves { Configured A.Memory.ordered A.Memory.meaning A.Word.Word.nought result.a × Configured B.Memory.ordered B.Memory.meaning A.Word.Word.nought result.b }
-    {
-        let mut layer = Replicate {
-            a,
-            b,
-            joint: Joint::void(),
-        };
-        layer.make();
-        layer
-    }
-
-    // Configures both halves, and takes the numbers from them anew.
-    fn make(&mut self)
-        ensures order { InOrder A.Word.Word.kind A.Memory.ordered B.Memory.ordered A.Memory.meaning B.Memory.meaning self.new }
-        ensures clear { Cleared A.Word.Word.nought (meant A.Memory.meaning B.Memory.meaning self.new) }
-        ensures made { A.Memory.ordered self.old.a → B.Memory.ordered self.old.b → Made own A.Word.Word.kind (A.Memory.meaning self.old.a) (B.Memory.meaning self.old.b) (meant A.Memory.meaning B.Memory.meaning self.new) }
-        ensures halves { Configured A.Memory.ordered A.Memory.meaning A.Word.Word.nought self.new.a × Configured B.Memory.ordered B.Memory.meaning A.Word.Word.nought self.new.b }
-    {
-        self.a.configure();
-        self.b.configure();
-        self.joint = join(Layer::Replicate, &self.a, &self.b);
-    }
-}
-
-impl<A: Memory, B: Memory<Word = A::Word>> Memory for Replicate<A, B> {
+impl<A: Memory, B: Memory<Word = A::Word>> Rule<A, B> for ReplicateRule {
     type Word = A::Word;
 
-    ghost ordered = { InOrder A.Word.Word.kind A.Memory.ordered B.Memory.ordered A.Memory.meaning B.Memory.meaning };
+    ghost own = { own };
 
-    ghost meaning = { meant A.Memory.meaning B.Memory.meaning };
+    ghost pairs = { λ r j. Paired };
 
-    ghost tidy = { λ s o.
-        tidy_layer A.Word.Word.kind s.joint (A.Memory.meaning s.a) (B.Memory.meaning s.b)
-        (λ live. let k = o live in (A.Memory.tidy s.a k.0, k.2)) };
+    ghost means = { λ r. replicated };
 
-    ghost planned = { λ s o.
-        let m = meant A.Memory.meaning B.Memory.meaning s in
-        planned_layer own A.Word.Word.kind A.Word.Word.kind s.joint (A.Memory.meaning s.a) (B.Memory.meaning s.b) m.word m.used m.port refl
-        (λ live. let k = o live in (A.Memory.planned s.a k.0, B.Memory.planned s.b k.1, k.2)) };
+    ghost framed = { λ r j a b. refl };
 
-    fn configure(&mut self)
-        ensures order { InOrder A.Word.Word.kind A.Memory.ordered B.Memory.ordered A.Memory.meaning B.Memory.meaning self.new }
-        ensures clear { Cleared A.Word.Word.nought (meant A.Memory.meaning B.Memory.meaning self.new) }
-        ensures shape { InOrder A.Word.Word.kind A.Memory.ordered B.Memory.ordered A.Memory.meaning B.Memory.meaning self.old → SameShape (meant A.Memory.meaning B.Memory.meaning self.old) (meant A.Memory.meaning B.Memory.meaning self.new) }
-        ensures void { Unmoved self.old self.new }
-    {
-        if self.joint.own.depth > 0 {
-            self.make();
+    ghost letter = { λ a b. refl };
+
+    ghost tidy = { λ r j a b h.
+        tidy_layer A.Word.Word.kind j a b (λ live. let k = h live in (k.0, k.2)) };
+
+    ghost edged = { λ r r' j a b a' b' g s t h _. edged_layer A.Word.Word.kind j a b a' b' g h };
+
+    fn layer() -> Layer {
+        Layer::Replicate
+    }
+
+    fn start() -> Self {
+        ReplicateRule
+    }
+
+    fn is_used(&self, halves: &Halves<A, B>, port: usize) -> bool {
+        match Place::of(halves.joint.first.reads, port) {
+            Place::First(port) => halves.a.is_used(port),
+            Place::Second(port) => halves.b.is_used(port),
         }
     }
 
-    fn reads(&self) -> usize {
-        self.joint.own.reads
+    fn held(&self, halves: &Halves<A, B>, port: usize) -> Option<usize> {
+        halves.a.held(port)
     }
 
-    fn writes(&self) -> usize {
-        self.joint.own.writes
-    }
-
-    fn depth(&self) -> usize {
-        self.joint.own.depth
-    }
-
-    fn nodes(&self) -> usize {
-        self.joint.own.nodes
-    }
-
-    fn node(&self, i: usize) -> Option<Node> {
-        joint::node(Layer::Replicate, &self.joint, &self.a, &self.b, i)
-    }
-
-    fn is_used(&self, port: usize) -> bool {
-        if port >= self.joint.own.reads {
-            false
-        } else if port < self.joint.first.reads {
-            self.a.is_used(port)
-        } else {
-            self.b.is_used(port - self.joint.first.reads)
+    fn read(
+        &self,
+        halves: &mut Halves<A, B>,
+        port: usize,
+        address: usize,
+    ) -> Result<A::Word, Refusal> {
+        match Place::of(halves.joint.first.reads, port) {
+            Place::First(port) => halves.a.read(port, address),
+            Place::Second(port) => halves.b.read(port, address),
         }
     }
 
-    fn held(&self, port: usize) -> Option<usize> {
-        if port < self.joint.own.writes {
-            self.a.held(port)
-        } else {
-            None
-        }
+    fn write(
+        &self,
+        halves: &mut Halves<A, B>,
+        port: usize,
+        address: usize,
+        word: A::Word,
+    ) -> Result<(), Refusal> {
+        halves.a.write(port, address, word)?;
+        halves.b.write(port, address, word)
     }
 
-    fn read(&mut self, port: usize, address: usize) -> Result<A::Word, Refusal>
-        ensures order { InOrder A.Word.Word.kind A.Memory.ordered B.Memory.ordered A.Memory.meaning B.Memory.meaning self.old → InOrder A.Word.Word.kind A.Memory.ordered B.Memory.ordered A.Memory.meaning B.Memory.meaning self.new }
-        ensures does { InOrder A.Word.Word.kind A.Memory.ordered B.Memory.ordered A.Memory.meaning B.Memory.meaning self.old → Read (meant A.Memory.meaning B.Memory.meaning self.old) port address result (meant A.Memory.meaning B.Memory.meaning self.new) }
-        ensures void { Unmoved self.old self.new }
-    {
-        self.may_read(port, address)?;
-        let own = self.joint.first.reads;
-        if port < own {
-            self.a.read(port, address)
-        } else {
-            self.b.read(port - own, address)
-        }
-    }
-
-    fn write(&mut self, port: usize, address: usize, word: A::Word) -> Result<(), Refusal>
-        ensures order { InOrder A.Word.Word.kind A.Memory.ordered B.Memory.ordered A.Memory.meaning B.Memory.meaning self.old → InOrder A.Word.Word.kind A.Memory.ordered B.Memory.ordered A.Memory.meaning B.Memory.meaning self.new }
-        ensures does { InOrder A.Word.Word.kind A.Memory.ordered B.Memory.ordered A.Memory.meaning B.Memory.meaning self.old → Write (meant A.Memory.meaning B.Memory.meaning self.old) port address word result (meant A.Memory.meaning B.Memory.meaning self.new) }
-        ensures void { Unmoved self.old self.new }
-    {
-        self.may_write(port, address)?;
-        self.a.write(port, address, word)?;
-        self.b.write(port, address, word)
-    }
-
-    fn edge(&mut self)
-        ensures order { InOrder A.Word.Word.kind A.Memory.ordered B.Memory.ordered A.Memory.meaning B.Memory.meaning self.old → InOrder A.Word.Word.kind A.Memory.ordered B.Memory.ordered A.Memory.meaning B.Memory.meaning self.new }
-        ensures does { InOrder A.Word.Word.kind A.Memory.ordered B.Memory.ordered A.Memory.meaning B.Memory.meaning self.old → Edged (meant A.Memory.meaning B.Memory.meaning self.old) (meant A.Memory.meaning B.Memory.meaning self.new) }
-        ensures void { Unmoved self.old self.new }
-    {
-        if self.joint.own.depth > 0 {
-            self.a.edge();
-            self.b.edge();
-        }
-    }
+    fn advance(&mut self, _halves: &Halves<A, B>) {}
 }

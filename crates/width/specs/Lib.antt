@@ -1,3 +1,4 @@
 pub mod Width
 pub mod Words
 pub mod Tidy
+pub mod Edges

@@ -1,13 +1,11 @@
 -- The width layer: what it means by its halves, and what they share while it is in order.
 use Rattle.std.specs.Prelude.{◌≡◌, ℕ, ◌<◌}
-use Rattle.word.specs.declared.Letter.TheVariants.{H}
 use Rattle.kinds.specs.declared.bits32.Bits32.{Bits32}
 use Rattle.kinds.specs.declared.bits64.Bits64.{Bits64}
 use Rattle.node.specs.declared.node.Layer.TheVariants.{Width as own}
 use Rattle.memory.specs.Meaning.{Meaning, Port, free, holding, address}
 use Rattle.joint.specs.declared.sizes.Joint.{Joint}
-use Rattle.joint.specs.Piles.{Agreed, layer}
-use Rattle.width.specs.declared.Width.{Width}
+use Rattle.joint.specs.Piles.{layer}
 use Rattle.width.specs.Words.{wide}
 
 -- both halves have used the same read ports, and hold the same addresses
@@ -24,15 +22,3 @@ together (holding x u) (holding y v) = holding x (wide u v)
 -- each word is A's in its low half and B's in its high half; the ports are those of both
 abbrev pub widened : Joint → Meaning Bits32 → Meaning Bits32 → Meaning Bits64
 widened j a b = layer own j a b (λ x. wide (a.word x) (b.word x)) a.used (λ p. together (a.port p) (b.port p))
-
--- what a layer means
-abbrev pub meant : {A B : Type 0} → (A → Meaning Bits32) → (B → Meaning Bits32) → Width A B → Meaning Bits64
-meant ma mb s = widened s.joint (ma s.a) (mb s.b)
-
--- a layer that is not void is in order: both halves are in order, its numbers are theirs, and they go together
-abbrev pub InOrder : {A B : Type 0} → (A → Type 0) → (B → Type 0) → (A → Meaning Bits32) → (B → Meaning Bits32) → Width A B → Type 0
-InOrder oa ob ma mb s = 0 < s.joint.own.depth → oa s.a × ob s.b × Agreed own H s.joint (ma s.a) (mb s.b) × Paired (ma s.a) (mb s.b)
-
--- a void layer calls its halves no more
-abbrev pub Unmoved : {A B : Type 0} → Width A B → Width A B → Type 0
-Unmoved s s' = s.joint.own.depth ≡ 0 → s' ≡ s

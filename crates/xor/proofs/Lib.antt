@@ -1,2 +1,0 @@
-mod Halves
-mod Pairs

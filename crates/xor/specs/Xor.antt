@@ -1,6 +1,5 @@
 -- The exclusive-or layer: what it means by its halves, and what they share while it is in order.
 use Rattle.std.specs.Prelude.{◌≡◌, ℕ, ◌-◌, ◌<◌, Bool, true, false, Some, Ok, Result, ◌≢◌}
-use Rattle.word.specs.declared.Letter.{Letter}
 use Rattle.node.specs.declared.node.Layer.TheVariants.{Xor as own}
 use Rattle.memory.specs.declared.refusal.Refusal.{Refusal}
 use Rattle.memory.specs.Meaning.{Meaning, Port, free, holding, address}
@@ -8,8 +7,7 @@ use Rattle.memory.specs.Calls.{MayRead, MayWrite, Marked, Stored}
 use Rattle.joint.specs.declared.sizes.Joint.{Joint}
 use Rattle.joint.specs.declared.sizes.Size.{Size}
 use Rattle.joint.specs.Beside.{beside}
-use Rattle.joint.specs.Piles.{Agreed, layer}
-use Rattle.xor.specs.declared.Xor.{Xor}
+use Rattle.joint.specs.Piles.{layer}
 
 -- the read port of the other half that is kept for write port w of a half: the last read ports are, in the order of
 -- the write ports, so that it is reads - writes + w
@@ -38,18 +36,6 @@ abbrev pub xor : {W : Type 0} → (W → W → W) → Joint → Meaning W → Me
 xor plus j a b =
     layer own j a b (λ x. plus (a.word x) (b.word x)) a.used
     (beside j.first.writes (λ w. added (λ x u. plus u (b.word x)) (a.port w)) (λ w. added (λ x u. plus (a.word x) u) (b.port w)))
-
--- what a layer means
-abbrev pub meant : {A B W : Type 0} → (W → W → W) → (A → Meaning W) → (B → Meaning W) → Xor A B → Meaning W
-meant plus ma mb s = xor plus s.joint (ma s.a) (mb s.b)
-
--- a layer that is not void is in order: both halves are in order, its numbers are theirs, and they go together
-abbrev pub InOrder : {A B W : Type 0} → Letter → (A → Type 0) → (B → Type 0) → (A → Meaning W) → (B → Meaning W) → Xor A B → Type 0
-InOrder k oa ob ma mb s = 0 < s.joint.own.depth → oa s.a × ob s.b × Agreed own k s.joint (ma s.a) (mb s.b) × Paired s.joint (ma s.a) (mb s.b)
-
--- a void layer calls its halves no more
-abbrev pub Unmoved : {A B : Type 0} → Xor A B → Xor A B → Type 0
-Unmoved s s' = s.joint.own.depth ≡ 0 → s' ≡ s
 
 -- a read of both halves through one port, where neither refuses: the sum of their words
 abbrev pub ReadBoth : {W : Type 0} → (W → W → W) → Meaning W → Meaning W → ℕ → ℕ → Result W Refusal → Meaning W → Meaning W → Type 0

@@ -1,8 +1,0 @@
-use Rattle.word.specs.declared.Letter.TheVariants.{H}
-use Rattle.node.specs.declared.node.Layer.TheVariants.{Width as own}
-use Rattle.joint.proofs.Piles.{nodes_are}
-use Rattle.width.proofs.WidthMemory.nodes.Goals as goal
-
-pub returns : goal.returns
-returns g c = λ o.
-    nodes_are own H c.args.self.now.joint (g.A.Memory.meaning c.args.self.now.a) (g.B.Memory.meaning c.args.self.now.b) (λ live. (o live).2)
