@@ -36,20 +36,25 @@ enum Part {
     Pass,
 }
 
-// What comes of a text.
+// What is written of a text that no part refuses.
 #[derive(Clone, Copy, PartialEq, Eq)]
-enum Answer {
-    // No fault, and what is written is the text that was read.
+enum Outcome {
+    // The text that was read.
     Fine,
-    // This part refuses it, with this fault.
-    Refused {
-        part: Part,
-        number: u8,
-        place: usize,
-    },
-    // No fault, and what is written is another text.
+    // Another text.
     Changed,
 }
+
+// A fault, and the part that it comes from.
+#[derive(Clone, Copy, PartialEq, Eq)]
+struct Refusal {
+    part: Part,
+    number: u8,
+    place: usize,
+}
+
+// What comes of a text.
+type Answer = Result<Outcome, Refusal>;
 
 // A case of the table.
 #[derive(Drop)]
@@ -79,22 +84,41 @@ impl fmt::Display for Part {
     }
 }
 
-impl fmt::Display for Answer {
-    // The answer in words.
+impl fmt::Display for Outcome {
+    // The outcome in words.
     fn fmt<W: fmt::Write>(&self, f: &mut fmt::Formatter<W>) -> fmt::Result {
         match self {
-            Answer::Fine => write!(f, "no fault"),
-            Answer::Refused {
-                part,
-                number,
-                place,
-            } => write!(f, "{part} fault {number} at {place}"),
-            Answer::Changed => write!(f, "another text"),
+            Outcome::Fine => write!(f, "no fault"),
+            Outcome::Changed => write!(f, "another text"),
         }
     }
 }
 
-// The part that a field names.
+impl fmt::Display for Refusal {
+    // The fault in words.
+    fn fmt<W: fmt::Write>(&self, f: &mut fmt::Formatter<W>) -> fmt::Result {
+        let Refusal {
+            part,
+            number,
+            place,
+        } = self;
+        write!(f, "{part} fault {number} at {place}")
+    }
+}
+
+impl Refusal {
+    // The refusal of a text by a part.
+    fn by<F: Fault>(part: Part, fault: &F) -> Refusal {
+        let report = fault.report();
+        Refusal {
+            part,
+            number: report.number,
+            place: report.place,
+        }
+    }
+}
+
+// The part that a field names. No `TryFrom`: a field that names none has no error to tell.
 fn part_of(word: &[u8]) -> Option<Part> {
     match word {
         b"read" => Some(Part::Read),
@@ -109,13 +133,13 @@ fn part_of(word: &[u8]) -> Option<Part> {
 fn expected_of(part: Part, number: u8, place: usize) -> Option<Answer> {
     match (part, number, place) {
         (Part::Check, 0, _) => None,
-        (_, 0, 0) => Some(Answer::Fine),
+        (_, 0, 0) => Some(Ok(Outcome::Fine)),
         (Part::Pass, _, _) | (_, 0, _) => None,
-        _ => Some(Answer::Refused {
+        _ => Some(Err(Refusal {
             part,
             number,
             place,
-        }),
+        })),
     }
 }
 
@@ -134,19 +158,15 @@ fn escape(letter: u8) -> Option<u8> {
 // The bytes that the last field of a line stands for; none where a backslash or a TAB stands amiss.
 fn unescaped(heap: Global, field: &[u8]) -> Option<Vec<u8>> {
     let mut text = Vec::new(heap);
-    let mut is_escape = false;
-    for b in field {
-        match (is_escape, *b) {
-            (true, letter) => {
-                text.push(escape(letter)?).ok()?;
-                is_escape = false;
-            }
-            (false, b'\\') => is_escape = true,
-            (false, b'\t') => return None,
-            (false, byte) => text.push(byte).ok()?,
+    let mut bytes = field.iter().copied();
+    while let Some(byte) = bytes.next() {
+        match byte {
+            b'\\' => text.push(escape(bytes.next()?)?).ok()?,
+            b'\t' => return None,
+            _ => text.push(byte).ok()?,
         }
     }
-    if is_escape { None } else { Some(text) }
+    Some(text)
 }
 
 // A text that stands several times, one after another.
@@ -184,39 +204,25 @@ fn case_of(heap: Global, line: &[u8]) -> Option<Case> {
     })
 }
 
-// The answer of a part that refuses a text.
-fn refused<F: Fault>(part: Part, fault: &F) -> Answer {
-    let report = fault.report();
-    Answer::Refused {
-        part,
-        number: report.number,
-        place: report.place,
-    }
-}
-
 // What comes of writing nodes: the writer's fault, or whether they make up the text again.
 fn written(nodes: &[Node], text: &[u8], out: &mut [u8]) -> Answer {
-    match write(nodes, out) {
-        Err(fault) => refused(Part::Write, &fault),
-        Ok(n) if n == text.len() && out.starts_with(text) => Answer::Fine,
-        Ok(_) => Answer::Changed,
+    let size = write(nodes, out).map_err(|fault| Refusal::by(Part::Write, &fault))?;
+    if size == text.len() && out.starts_with(text) {
+        Ok(Outcome::Fine)
+    } else {
+        Ok(Outcome::Changed)
     }
 }
 
 // What comes of a text, as far as a part goes. The writer is asked without the check for a `write`.
 fn answer_to(part: Part, text: &[u8], nodes: &mut [Node], out: &mut [u8]) -> Answer {
-    let count = match read(text, nodes) {
-        Ok(count) => count,
-        Err(fault) => return refused(Part::Read, &fault),
-    };
+    let count = read(text, nodes).map_err(|fault| Refusal::by(Part::Read, &fault))?;
     if part == Part::Read {
-        return Answer::Fine;
+        return Ok(Outcome::Fine);
     }
-    let nodes = &nodes[0..count];
+    let nodes = &nodes[..count];
     if part != Part::Write {
-        if let Err(fault) = check(nodes) {
-            return refused(Part::Check, &fault);
-        }
+        check(nodes).map_err(|fault| Refusal::by(Part::Check, &fault))?;
     }
     written(nodes, text, out)
 }
@@ -230,10 +236,19 @@ fn tried(heap: Global, case: &Case) -> anyhow::Result<Answer> {
     };
     let mut out = vec![in heap; 0u8; room]?;
     let mut nodes = [Node::Layer(Layer::Lvt); MAX_PLACES];
-    match nodes.get_mut(0..places) {
-        Some(nodes) => Ok(answer_to(case.part, case.text.as_slice(), nodes, &mut out)),
-        None => Err(anyhow!("more than 70 places")),
+    let nodes = nodes
+        .get_mut(..places)
+        .ok_or_else(|| anyhow!("more than 70 places"))?;
+    Ok(answer_to(case.part, case.text.as_slice(), nodes, &mut out))
+}
+
+// Prints an answer.
+fn show(rt: &HostRuntime, answer: &Answer) -> anyhow::Result<()> {
+    match answer {
+        Ok(outcome) => print!(rt; "{outcome}")?,
+        Err(refusal) => print!(rt; "{refusal}")?,
     }
+    Ok(())
 }
 
 // Tries the case of one line, and says so if its answer is wrong.
@@ -246,7 +261,11 @@ fn judged(rt: &HostRuntime, place: usize, line: &[u8]) -> anyhow::Result<Verdict
     let expected = case.expected;
     let right = came == expected;
     if !right {
-        println!(rt; "line {place}: expected {expected}, came {came}")?;
+        print!(rt; "line {place}: expected ")?;
+        show(rt, &expected)?;
+        print!(rt; ", came ")?;
+        show(rt, &came)?;
+        println!(rt; "")?;
     }
     let part = case.part;
     Ok(Verdict { part, right })
@@ -265,31 +284,17 @@ fn judged_all(rt: &HostRuntime, table: &str) -> anyhow::Result<Vec<Verdict>> {
 
 // How many cases of a part there are.
 fn count_of(verdicts: &[Verdict], part: Part) -> usize {
-    let mut count = 0usize;
-    for verdict in verdicts {
-        if verdict.part == part {
-            count = count.saturating_add(1);
-        }
-    }
-    count
+    verdicts.iter().filter(|v| v.part == part).count()
 }
 
 // How many cases are wrong.
 fn wrong_of(verdicts: &[Verdict]) -> usize {
-    let mut count = 0usize;
-    for verdict in verdicts {
-        if !verdict.right {
-            count = count.saturating_add(1);
-        }
-    }
-    count
+    verdicts.iter().filter(|v| !v.right).count()
 }
 
 // Tries the table, and says how many cases there are and how many are wrong.
 fn run(rt: &HostRuntime) -> anyhow::Result<()> {
-    let Ok(table) = fs::read_to_string(rt, FILE) else {
-        return Err(anyhow!("cannot read cases.txt"));
-    };
+    let table = fs::read_to_string(rt, FILE).map_err(|_| anyhow!("cannot read cases.txt"))?;
     let verdicts = judged_all(rt, table.as_str())?;
     for part in [Part::Read, Part::Check, Part::Write, Part::Pass] {
         let count = count_of(verdicts.as_slice(), part);
@@ -304,7 +309,7 @@ fn run(rt: &HostRuntime) -> anyhow::Result<()> {
     Ok(())
 }
 
-// Reports why the table did not pass, if it did not.
+// Ends with an error where the table did not pass.
 fn main(rt: HostRuntime) -> anyhow::Result<()> {
     run(&rt)
 }

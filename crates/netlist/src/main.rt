@@ -8,44 +8,55 @@ use fault_line::{Part, render};
 use judge::judge;
 use node::{Layer, MAX_NODES, Node};
 use seal::Draft;
+use std::alloc::{AllocError, Global};
 use std::fs;
 use std::process::ExitCode;
-use text::{Fault, MAX_BYTES};
+use text::{Fault, MAX_BYTES, Report};
 use wiring::netlist;
 
 const PLAN: &str = "plan.txt";
 
-// Prints the line of a fault. Nothing was written.
-fn fail<F: Fault>(rt: &HostRuntime, part: Part, fault: &F) -> anyhow::Result<bool> {
-    rt.write_all(render(part, fault.report()).as_bytes())?;
-    Ok(false)
+// What ends the program before its text is printed.
+#[derive(Drop)]
+enum Stop {
+    // A fault, and the part that it lies in.
+    Fault(Part, Report),
+    // No memory for the text.
+    Memory(AllocError),
 }
 
-// Prints the netlist; whether it was written.
-fn write_netlist(rt: &HostRuntime) -> anyhow::Result<bool> {
-    let Ok(text) = fs::read(rt, PLAN) else {
-        return Err(anyhow!("cannot read plan.txt"));
-    };
-    let mut nodes = [Node::Layer(Layer::Lvt); MAX_NODES];
-    let count = match judge(text.as_slice(), &mut nodes) {
-        Ok(count) => count,
-        Err(fault) => return fail(rt, Part::Plan, &fault),
-    };
-    let mut out = vec![in rt.alloc(); 0u8; MAX_BYTES]?;
-    match netlist(Draft::new(&nodes[0..count]).seal(), &mut out) {
-        Ok(size) => {
-            out.truncate(size);
-            rt.write_all(out.as_slice())?;
-            Ok(true)
-        }
-        Err(fault) => fail(rt, Part::Netlist, &fault),
+impl From<AllocError> for Stop {
+    fn from(error: AllocError) -> Stop {
+        Stop::Memory(error)
     }
 }
 
+// The netlist of a plan, or what ends the program first.
+fn draw(heap: Global, text: &[u8]) -> Result<Vec<u8>, Stop> {
+    let mut nodes = [Node::Layer(Layer::Lvt); MAX_NODES];
+    let count = judge(text, &mut nodes).map_err(|fault| Stop::Fault(Part::Plan, fault.report()))?;
+    let sealed = Draft::new(&nodes[..count]).seal();
+    let mut out = vec![in heap; 0u8; MAX_BYTES]?;
+    let size = netlist(sealed, &mut out).map_err(|fault| Stop::Fault(
+        Part::Netlist,
+        fault.report(),
+    ))?;
+    out.truncate(size);
+    Ok(out)
+}
+
+// Reads the plan, and prints its netlist, or the line of the first fault.
 fn main(rt: HostRuntime) -> anyhow::Result<ExitCode> {
-    if write_netlist(&rt)? {
-        Ok(ExitCode::SUCCESS)
-    } else {
-        Ok(ExitCode::FAILURE)
+    let text = fs::read(&rt, PLAN).map_err(|_| anyhow!("cannot read plan.txt"))?;
+    match draw(rt.alloc(), text.as_slice()) {
+        Ok(drawing) => {
+            rt.write_all(drawing.as_slice())?;
+            Ok(ExitCode::SUCCESS)
+        }
+        Err(Stop::Fault(part, report)) => {
+            rt.write_all(render(part, report).as_bytes())?;
+            Ok(ExitCode::FAILURE)
+        }
+        Err(Stop::Memory(error)) => Err(error.into()),
     }
 }

@@ -11,57 +11,58 @@ use judge::judge;
 use node::{Layer, MAX_NODES, Node};
 use planner::plan;
 use seal::Draft;
+use std::alloc::{AllocError, Global};
 use std::fs;
 use std::process::ExitCode;
-use text::{Fault, MAX_BYTES};
+use text::{Fault, MAX_BYTES, Report};
 
 const PLAN: &str = "plan.txt";
 
 const STOCK: &str = "stock.txt";
 
-// Prints the line of a fault. Nothing was written.
-fn fail<F: Fault>(rt: &HostRuntime, part: Part, fault: &F) -> anyhow::Result<bool> {
-    rt.write_all(render(part, fault.report()).as_bytes())?;
-    Ok(false)
+// What ends the program before its text is printed.
+#[derive(Drop)]
+enum Stop {
+    // A fault, and the part that it lies in.
+    Fault(Part, Report),
+    // No memory for the text.
+    Memory(AllocError),
 }
 
-// Prints the listing of a plan against a stock; whether it was written.
-fn write_listing(rt: &HostRuntime, text: &[u8], stock: &[u8]) -> anyhow::Result<bool> {
-    let mut nodes = [Node::Layer(Layer::Lvt); MAX_NODES];
-    let count = match judge(text, &mut nodes) {
-        Ok(count) => count,
-        Err(fault) => return fail(rt, Part::Plan, &fault),
-    };
-    let stock = match stock::read(stock) {
-        Ok(stock) => stock,
-        Err(fault) => return fail(rt, Part::Stock, &fault),
-    };
-    let mut out = vec![in rt.alloc(); 0u8; MAX_BYTES]?;
-    match plan(Draft::new(&nodes[0..count]).seal(), &stock, &mut out) {
-        Ok(planned) => {
-            out.truncate(planned.size);
-            rt.write_all(out.as_slice())?;
-            Ok(true)
-        }
-        Err(fault) => fail(rt, Part::Stock, &fault),
+impl From<AllocError> for Stop {
+    fn from(error: AllocError) -> Stop {
+        Stop::Memory(error)
     }
 }
 
-// Reads both files, and prints the listing.
-fn run(rt: &HostRuntime) -> anyhow::Result<bool> {
-    let Ok(text) = fs::read(rt, PLAN) else {
-        return Err(anyhow!("cannot read plan.txt"));
-    };
-    let Ok(stock) = fs::read(rt, STOCK) else {
-        return Err(anyhow!("cannot read stock.txt"));
-    };
-    write_listing(rt, text.as_slice(), stock.as_slice())
+// The listing of a plan against a stock, or what ends the program first.
+fn list(heap: Global, text: &[u8], stock: &[u8]) -> Result<Vec<u8>, Stop> {
+    let mut nodes = [Node::Layer(Layer::Lvt); MAX_NODES];
+    let count = judge(text, &mut nodes).map_err(|fault| Stop::Fault(Part::Plan, fault.report()))?;
+    let stock = stock::read(stock).map_err(|fault| Stop::Fault(Part::Stock, fault.report()))?;
+    let sealed = Draft::new(&nodes[..count]).seal();
+    let mut out = vec![in heap; 0u8; MAX_BYTES]?;
+    let planned = plan(sealed, &stock, &mut out).map_err(|fault| Stop::Fault(
+        Part::Stock,
+        fault.report(),
+    ))?;
+    out.truncate(planned.size);
+    Ok(out)
 }
 
+// Reads both files, and prints the listing, or the line of the first fault.
 fn main(rt: HostRuntime) -> anyhow::Result<ExitCode> {
-    if run(&rt)? {
-        Ok(ExitCode::SUCCESS)
-    } else {
-        Ok(ExitCode::FAILURE)
+    let text = fs::read(&rt, PLAN).map_err(|_| anyhow!("cannot read plan.txt"))?;
+    let stock = fs::read(&rt, STOCK).map_err(|_| anyhow!("cannot read stock.txt"))?;
+    match list(rt.alloc(), text.as_slice(), stock.as_slice()) {
+        Ok(listing) => {
+            rt.write_all(listing.as_slice())?;
+            Ok(ExitCode::SUCCESS)
+        }
+        Err(Stop::Fault(part, report)) => {
+            rt.write_all(render(part, report).as_bytes())?;
+            Ok(ExitCode::FAILURE)
+        }
+        Err(Stop::Memory(error)) => Err(error.into()),
     }
 }

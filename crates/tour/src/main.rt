@@ -114,17 +114,10 @@ fn show_reread(rt: &HostRuntime, nodes: &[Node]) -> anyhow::Result<()> {
     }
 }
 
-// A design from its text to its sealed plan.
-fn show_design(rt: &HostRuntime, name: &str, text: &[u8]) -> anyhow::Result<()> {
-    let mut nodes = [Node::Layer(Layer::Lvt); MAX_NODES];
-    let size = text.len();
-    println!(rt; "{name}: {size} bytes")?;
-    let count = match read(text, &mut nodes) {
-        Ok(count) => count,
-        Err(fault) => return show_fault(rt, "read", &fault),
-    };
+// The nodes of a design, step by step to the sealed plan.
+fn show_nodes(rt: &HostRuntime, text: &[u8], nodes: &[Node]) -> anyhow::Result<()> {
+    let count = nodes.len();
     println!(rt; "read: {count} nodes")?;
-    let nodes = &nodes[0..count];
     show_check(rt, nodes)?;
     show_rewritten(rt, text)?;
     show_reread(rt, nodes)?;
@@ -132,11 +125,20 @@ fn show_design(rt: &HostRuntime, name: &str, text: &[u8]) -> anyhow::Result<()> 
     show_plan(rt, draft.seal())
 }
 
+// A design from its text to its sealed plan.
+fn show_design(rt: &HostRuntime, name: &str, text: &[u8]) -> anyhow::Result<()> {
+    let mut nodes = [Node::Layer(Layer::Lvt); MAX_NODES];
+    let size = text.len();
+    println!(rt; "{name}: {size} bytes")?;
+    match read(text, &mut nodes) {
+        Ok(count) => show_nodes(rt, text, &nodes[..count]),
+        Err(fault) => show_fault(rt, "read", &fault),
+    }
+}
+
 // The sample design, and two that do not come to a plan.
 fn tour(rt: &HostRuntime) -> anyhow::Result<()> {
-    let Ok(text) = fs::read(rt, FILE) else {
-        return Err(anyhow!("cannot read plan.txt"));
-    };
+    let text = fs::read(rt, FILE).map_err(|_| anyhow!("cannot read plan.txt"))?;
     show_design(rt, FILE, text.as_slice())?;
     show_design(rt, "a damaged text", DAMAGED)?;
     show_design(rt, "a plan that is refused", REFUSED)
