@@ -14,7 +14,7 @@ use Rattle.joint.proofs.Piles.{agreed_still, same_layer}
 use Rattle.joint.proofs.Sides.{of_first, of_second, side, beside_first, beside_second}
 use Rattle.lvt.specs.declared.Half.{Half}
 use Rattle.lvt.specs.declared.Half.TheVariants.{First, Second}
-use Rattle.lvt.specs.Lvt.{Moved, Overlaid, Paired, marked, pick, tabled}
+use Rattle.lvt.specs.Lvt.{Moved, Paired, marked, pick, tabled}
 
 -- a configured layer is clear, whatever its marks are
 pub clear_layer : {W : Type 0} (k : Letter) (zero : W) (j : Joint) (marks : List Half) (a b : Meaning W) → Agreed own k j a b → Cleared zero a → Cleared zero b → Cleared zero (tabled j marks a b) × Paired a b
@@ -112,14 +112,6 @@ write_second k j marks a b b' p o x w (Ok u) g h m c t =
         ];
       },
     )
-
--- no address is held in both halves
-pub moved : {W : Type 0} (a b : Meaning W) (before after : List Half) → Paired a b → Overlaid a b before after → Moved a b before after
-moved a b before after h v = record {
-  first = λ x w. v.first x w (λ q hq e. h.apart w.0 q x w.1 hq w.2 e);
-  second = v.second;
-  kept = v.kept;
-}
 
 -- the edge of both halves, after the marks have moved
 pub edge_both : {W : Type 0} (k : Letter) (j : Joint) (marks marks' : List Half) (a b a' b' : Meaning W) → Agreed own k j a b → Paired a b → Moved a b marks marks' → Edged a a' → Edged b b' → Edged (tabled j marks a b) (tabled j marks' a' b') × Paired a' b'
