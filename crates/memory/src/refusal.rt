@@ -6,20 +6,26 @@ ghost use Rattle.memory.specs.Refusals.{refusal};
 #[derive(Clone, Copy)]
 pub enum Refusal {
     /// There is no such port.
-    NoPort = 1,
+    NoPort,
     /// The address is not below the depth.
-    NoAddress = 2,
+    NoAddress,
     /// The port has served a call since the last edge.
-    Busy = 3,
+    Busy,
     /// Another write port holds the address.
-    Held = 4,
+    Held,
 }
 
 impl Refusal {
     /// The refusal's number.
+    // By `match`: a number on each case would alter what `as u8` gives of it, its place from 0.
     pub fn number(self) -> u8
         ensures { result ≡ refusal self }
     {
-        self as u8
+        match self {
+            Refusal::NoPort => 1,
+            Refusal::NoAddress => 2,
+            Refusal::Busy => 3,
+            Refusal::Held => 4,
+        }
     }
 }

@@ -9,11 +9,11 @@ use text::{Fault, Report};
 #[derive(Clone, Copy)]
 pub enum NodeFault {
     /// A macro with a number out of its range.
-    OutOfRange = 6,
+    OutOfRange,
     /// A layer with fewer than two memories before it.
-    TooFewMemories = 9,
+    TooFewMemories,
     /// A layer over halves that do not fit.
-    Unfit = 10,
+    Unfit,
 }
 
 /// Why a plan does not pass.
@@ -31,10 +31,15 @@ pub enum CheckFault {
 
 impl NodeFault {
     /// The fault's number.
+    // By `match`: a number on each case would alter what `as u8` gives of it, its place from 0.
     pub fn number(self) -> u8
         ensures { result ≡ node_fault self }
     {
-        self as u8
+        match self {
+            NodeFault::OutOfRange => 6,
+            NodeFault::TooFewMemories => 9,
+            NodeFault::Unfit => 10,
+        }
     }
 }
 

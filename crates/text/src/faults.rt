@@ -23,16 +23,20 @@ pub trait Fault {
 #[derive(Clone, Copy)]
 pub enum LineFault {
     /// Not of the format.
-    Malformed = 5,
+    Malformed,
     /// Of the format, with a number beyond its range.
-    OutOfRange = 6,
+    OutOfRange,
 }
 
 impl LineFault {
     /// The fault's number.
+    // By `match`: a number on each case would alter what `as u8` gives of it, its place from 0.
     pub fn number(self) -> u8
         ensures { result ≡ line_fault self }
     {
-        self as u8
+        match self {
+            LineFault::Malformed => 5,
+            LineFault::OutOfRange => 6,
+        }
     }
 }
