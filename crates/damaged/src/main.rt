@@ -56,6 +56,10 @@ struct Refusal {
 // What comes of a text.
 type Answer = Result<Outcome, Refusal>;
 
+// An answer as it is printed, in one piece with its line.
+#[derive(Clone, Copy)]
+struct Told(Answer);
+
 // A case of the table.
 #[derive(Drop)]
 struct Case {
@@ -103,6 +107,16 @@ impl fmt::Display for Refusal {
             place,
         } = self;
         write!(f, "{part} fault {number} at {place}")
+    }
+}
+
+impl fmt::Display for Told {
+    // The outcome or the fault, in words.
+    fn fmt<W: fmt::Write>(&self, f: &mut fmt::Formatter<W>) -> fmt::Result {
+        match &self.0 {
+            Ok(outcome) => write!(f, "{outcome}"),
+            Err(refusal) => write!(f, "{refusal}"),
+        }
     }
 }
 
@@ -242,15 +256,6 @@ fn tried(heap: Global, case: &Case) -> anyhow::Result<Answer> {
     Ok(answer_to(case.part, case.text.as_slice(), nodes, &mut out))
 }
 
-// Prints an answer.
-fn show(rt: &HostRuntime, answer: &Answer) -> anyhow::Result<()> {
-    match answer {
-        Ok(outcome) => print!(rt; "{outcome}")?,
-        Err(refusal) => print!(rt; "{refusal}")?,
-    }
-    Ok(())
-}
-
 // Tries the case of one line, and says so if its answer is wrong.
 fn judged(rt: &HostRuntime, place: usize, line: &[u8]) -> anyhow::Result<Verdict> {
     let Some(case) = case_of(rt.alloc(), line) else {
@@ -261,11 +266,8 @@ fn judged(rt: &HostRuntime, place: usize, line: &[u8]) -> anyhow::Result<Verdict
     let expected = case.expected;
     let right = came == expected;
     if !right {
-        print!(rt; "line {place}: expected ")?;
-        show(rt, &expected)?;
-        print!(rt; ", came ")?;
-        show(rt, &came)?;
-        println!(rt; "")?;
+        let (expected, came) = (Told(expected), Told(came));
+        println!(rt; "line {place}: expected {expected}, came {came}")?;
     }
     let part = case.part;
     Ok(Verdict { part, right })
