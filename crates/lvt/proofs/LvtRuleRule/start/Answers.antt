@@ -1,7 +1,7 @@
 use Rattle.std.proofs.Common.{replicate}
 use Rattle.node.specs.Limits.{max_marks}
 use Rattle.lvt.specs.declared.Half.TheVariants.{First}
-use Rattle.lvt.specs.Edges.{clear_layer}
+use Rattle.lvt.proofs.Halves.{clear_layer}
 use Rattle.lvt.proofs.LvtRuleRule.start.Goals as goal
 
 pub returns-clause-clear : goal.returns-clause-clear

@@ -1,5 +1,5 @@
 use Rattle.joint.proofs.Piles.{live_write}
-use Rattle.lvt.specs.Edges.{write_first, write_second}
+use Rattle.lvt.proofs.Halves.{write_first, write_second}
 use Rattle.lvt.proofs.LvtRuleRule.write.Goals as goal
 
 pub returns-in-First-clause-order : goal.returns-in-First-clause-order

@@ -1,5 +1,5 @@
 use Rattle.joint.proofs.Piles.{live_read}
-use Rattle.xor.specs.Edges.{read_layer}
+use Rattle.xor.proofs.Halves.{read_layer}
 use Rattle.xor.proofs.XorRuleRule.read.Goals as goal
 
 pub returns-clause-does : goal.returns-clause-does

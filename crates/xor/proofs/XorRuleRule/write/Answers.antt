@@ -4,7 +4,7 @@ use Rattle.memory.specs.Calls.{MayWrite}
 use Rattle.joint.proofs.Piles.{live_write}
 use Rattle.layered.specs.Layered.{InOrder, meant}
 use Rattle.xor.specs.Xor.{Paired, xor}
-use Rattle.xor.specs.Edges.{put_first, put_second}
+use Rattle.xor.proofs.Halves.{put_first, put_second}
 use Rattle.xor.proofs.XorRuleRule.write.Goals as goal
 
 pub returns-in-First : goal.returns-in-First

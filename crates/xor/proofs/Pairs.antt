@@ -1,9 +1,9 @@
--- The numbers of a layer in order and what its halves share, said alike of both halves.
+-- What the halves share after a read or a write, said alike of both halves.
 use Rattle.std.specs.Prelude.{◌≡◌, ℕ, ◌<◌, Some}
 use Rattle.std.proofs.Common.{sym, ap, ◌∙◌, inl, inr, arith}
 use Rattle.std.proofs.lemmas.Bool.{cases_eq}
 use Rattle.memory.specs.Meaning.{Meaning, address}
-use Rattle.memory.specs.Calls.{Idle, Marked, Stored, Edged}
+use Rattle.memory.specs.Calls.{Idle, Marked, Stored}
 use Rattle.joint.specs.declared.sizes.Joint.{Joint}
 use Rattle.xor.specs.Xor.{Paired, busy, recovery}
 use Rattle.xor.specs.Tidy.{Numbers}
@@ -58,13 +58,4 @@ paired_put j a b a' b' p c x u n h hp hc idle s t = record {
     | inl same ↦ (let z : Some x ≡ Some y = ap address (sym s.here) ∙ ap (λ (i : ℕ). address (a'.port i)) (sym same) ∙ e in idle w' (omega arith) (e'' ∙ sym z))
     | inr other ↦ h.apart w w' y hw hw' (ap address (sym (s.ports w (omega arith) other)) ∙ e) e''
   ];
-}
-
--- the edge of both halves
-pub paired_edge : {W : Type 0} (j : Joint) (a b a' b' : Meaning W) → Numbers j a b → Edged a a' → Edged b b' → Paired j a' b'
-paired_edge j a b a' b' n s t = record {
-  used = λ q hq. t.used q (omega arith) ∙ sym (s.used q (omega arith));
-  first = λ w hw. t.used (recovery j.first j.second w) (omega arith) ∙ ap busy (sym (s.ports w (omega arith)));
-  second = λ w hw. s.used (recovery j.second j.first w) (omega arith) ∙ ap busy (sym (t.ports w (omega arith)));
-  apart = λ w w' x hw hw' e e'. (let f = ap address (sym (s.ports w (omega arith))) ∙ e in let z : ◌≡◌ {A = ℕ} 0 1 = cc in omega arith);
 }
